@@ -1,0 +1,9 @@
+pub mod Literals
+pub mod Choices
+pub mod Meanings
+pub mod Limits
+pub mod Summaries
+pub mod Refusals
+pub mod Counted
+pub mod Ladders
+pub mod facts
