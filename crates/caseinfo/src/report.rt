@@ -1,13 +1,15 @@
-// A case file judged, summarised and written again.
+// A case file judged, summarised and written again; and the tariff over it.
 ghost use mathlib.Core.Path.{_≡_};
-ghost use Rattle.casefile.specs.Files.{parse};
-ghost use Rattle.caseinfo.specs.Reports.{report-of, copy-after, again-line, lines};
 ghost use Rattle.std.specs.declared.option.Option.the-variants.{Some};
+ghost use Rattle.casefile.specs.Files.{parse};
+ghost use Rattle.caseinfo.specs.Reports.{report-of, copy-after, again-line, tariff-lines, lines};
 use casefile::fault::FileRefusal;
 use casefile::file::FileCase;
 use casefile::file::FileCaseCase;
 use cases::refusal::Refusal;
 use cases::summary::Summary;
+use layers::tariff::Tariff;
+use layers::tariff::TariffCase;
 use std::fmt;
 
 // A file written again.
@@ -19,14 +21,21 @@ pub struct Again {
     pub equal: bool,
 }
 
+// The tariff over the file.
+#[derive(Clone, Copy)]
+pub struct Priced {
+    pub summary: Summary,
+}
+
 #[derive(Clone, Copy)]
 pub struct Report {
     pub summary: Summary,
     pub bytes: usize,
     pub again: Again,
+    pub tariff: Priced,
 }
 
-// What the bytes are. They are written again into the copy.
+// What the bytes are, and what the tariff over them is. They are written again into the copy.
 pub fn inspect(bytes: &[u8], copy: &mut [u8]) -> Result<Report, FileRefusal>
     ensures answers { λ r. ⌜ r ≡ report-of (parse (now (bytes .entry))) (now (bytes .entry)) (now (copy .entry)) ⌝ }
     ensures leaves { λ _. ⌜ now (copy .exit) ≡ copy-after (parse (now (bytes .entry))) (now (bytes .entry)) (now (copy .entry)) ⌝ }
@@ -36,6 +45,9 @@ pub fn inspect(bytes: &[u8], copy: &mut [u8]) -> Result<Report, FileRefusal>
         return Err(refusal);
     }
     let summary = Summary::of(&reading.case);
+    let tariff = Priced {
+        summary: Summary::of(&Tariff::new(reading.case)),
+    };
     let written = reading.case.rewrite(copy);
     let equal = match written {
         Ok(n) => &copy[0..n] == bytes,
@@ -45,6 +57,7 @@ pub fn inspect(bytes: &[u8], copy: &mut [u8]) -> Result<Report, FileRefusal>
         summary,
         bytes: bytes.len(),
         again: Again { written, equal },
+        tariff,
     })
 }
 
@@ -65,16 +78,28 @@ pub impl fmt::Display for Again as AgainDisplay {
     }
 }
 
+pub impl fmt::Display for Priced as PricedDisplay {
+    ghost shown = { λ p. Some (tariff-lines (p .summary)) };
+
+    fn fmt<W: fmt::Write>(&self, f: &mut fmt::Formatter<W>) -> fmt::Result {
+        let options = self.summary.options;
+        let rules = self.summary.rules;
+        let total = self.summary.total;
+        write!(
+            f,
+            "tariff options {options}\ntariff rules {rules}\ntariff total {total}"
+        )
+    }
+}
+
 pub impl fmt::Display for Report as ReportDisplay {
     ghost shown = { λ r. Some (lines r) };
 
     fn fmt<W: fmt::Write>(&self, f: &mut fmt::Formatter<W>) -> fmt::Result {
-        let Summary {
-            options,
-            amounts,
-            rules,
-            longest,
-        } = self.summary;
+        let options = self.summary.options;
+        let amounts = self.summary.amounts;
+        let rules = self.summary.rules;
+        let longest = self.summary.longest;
         let bytes = self.bytes;
         let again = self.again;
         write!(

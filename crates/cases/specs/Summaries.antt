@@ -1,10 +1,10 @@
--- A case in four numbers.
+-- A case in five numbers.
 use mathlib.Core.Bool.{not}
 use mathlib.Core.List.{List}
 use Prim.Native.Nat.{ℕ, max}
 use lib.Dec.{eqb}
 use lib.ListN.{length}
-use Rattle.std.specs.shelf.Lists.{folded, countBy}
+use Rattle.std.specs.shelf.Lists.{folded, countBy, sum}
 use Rattle.cases.specs.Meanings.{Meaning, options-of, amounts-of, rules-of}
 use Rattle.cases.specs.declared.summary.Summary.{Summary}
 
@@ -17,4 +17,4 @@ abbrev pub longest : List (List ℕ) → ℕ
 longest rules = folded (λ n r. max n (length r)) 0 rules
 
 abbrev pub summary-of : Meaning → Summary
-summary-of m = record { options = options-of m; amounts = charged (amounts-of m); rules = length (rules-of m); longest = longest (rules-of m) }
+summary-of m = record { options = options-of m; amounts = charged (amounts-of m); rules = length (rules-of m); longest = longest (rules-of m); total = sum (amounts-of m) }

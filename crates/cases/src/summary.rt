@@ -1,5 +1,6 @@
-// A case in four numbers.
+// A case in five numbers.
 ghost use mathlib.Core.Path.{_≡_};
+ghost use Rattle.std.specs.shelf.Lists.{sum};
 ghost use Rattle.cases.specs.Meanings.{amounts-of, rules-of};
 ghost use Rattle.cases.specs.Summaries.{charged, longest, summary-of};
 use crate::case::Case;
@@ -12,6 +13,8 @@ pub struct Summary {
     pub rules: usize,
     // the literals of the longest rule
     pub longest: usize,
+    // the sum of all amounts
+    pub total: u64,
 }
 
 fn charged_amounts<C: Case>(case: &C) -> usize
@@ -39,6 +42,16 @@ fn longest_rule<C: Case>(case: &C) -> usize
     most
 }
 
+fn total_amount<C: Case>(case: &C) -> u64
+    ensures { λ n. ⌜ n ≡ sum (amounts-of (C·Case .meaning (now (case .entry)))) ⌝ }
+{
+    let mut total = 0;
+    for l in 0..2 * case.options() {
+        total += case.amount(l as u8) as u64;
+    }
+    total
+}
+
 impl Summary {
     pub fn of<C: Case>(case: &C) -> Summary
         ensures { λ s. ⌜ s ≡ summary-of (C·Case .meaning (now (case .entry))) ⌝ }
@@ -48,6 +61,7 @@ impl Summary {
             amounts: charged_amounts(case),
             rules: case.rules(),
             longest: longest_rule(case),
+            total: total_amount(case),
         }
     }
 }

@@ -8,53 +8,8 @@ use cases::case::Case;
 use std::test::*;
 
 // Two options, an amount for each literal, one rule.
-pub const TWO: [u8; 45] = [
-    1,
-    0,
-    2,
-    0,
-    2,
-    2,
-    0,
-    5,
-    0,
-    0,
-    0,
-    0,
-    5,
-    2,
-    0,
-    5,
-    1,
-    0,
-    0,
-    0,
-    1,
-    2,
-    0,
-    5,
-    2,
-    0,
-    0,
-    0,
-    2,
-    2,
-    0,
-    5,
-    3,
-    0,
-    0,
-    0,
-    3,
-    3,
-    0,
-    2,
-    0,
-    2,
-    4,
-    0,
-    0,
-];
+pub const TWO: [u8; 45] =
+    *b"\x01\0\x02\0\x02\x02\0\x05\0\0\0\0\x05\x02\0\x05\x01\0\0\0\x01\x02\0\x05\x02\0\0\0\x02\x02\0\x05\x03\0\0\0\x03\x03\0\x02\0\x02\x04\0\0";
 
 // The refusal's number and place; (0, 0) for an accepted file.
 fn judged(bytes: &[u8]) -> (u8, usize) {
@@ -110,56 +65,8 @@ fn cut_at_each_byte() -> Result<(), Fail> {
 
 #[test]
 fn bytes_after_the_end() -> Result<(), Fail> {
-    let mut longer: [u8; 48] = [
-        1,
-        0,
-        2,
-        0,
-        2,
-        2,
-        0,
-        5,
-        0,
-        0,
-        0,
-        0,
-        5,
-        2,
-        0,
-        5,
-        1,
-        0,
-        0,
-        0,
-        1,
-        2,
-        0,
-        5,
-        2,
-        0,
-        0,
-        0,
-        2,
-        2,
-        0,
-        5,
-        3,
-        0,
-        0,
-        0,
-        3,
-        3,
-        0,
-        2,
-        0,
-        2,
-        4,
-        0,
-        0,
-        0,
-        0,
-        0,
-    ];
+    let mut longer =
+        *b"\x01\0\x02\0\x02\x02\0\x05\0\0\0\0\x05\x02\0\x05\x01\0\0\0\x01\x02\0\x05\x02\0\0\0\x02\x02\0\x05\x03\0\0\0\x03\x03\0\x02\0\x02\x04\0\0\0\0\0";
     check_eq(judged(&longer[0..46]), (10, 45))?;
     check_eq(judged(&longer), (10, 45))?;
     longer[45] = 4;
@@ -168,48 +75,51 @@ fn bytes_after_the_end() -> Result<(), Fail> {
 
 #[test]
 fn unknown_tags_and_tags_out_of_order() -> Result<(), Fail> {
-    check_eq(judged(&[0, 0, 0]), (2, 0))?;
-    check_eq(judged(&[5, 0, 0]), (2, 0))?;
-    check_eq(judged(&[255, 255, 255]), (2, 0))?;
-    check_eq(judged(&[2, 0, 5, 0, 0, 0, 0, 1]), (4, 0))?;
-    check_eq(judged(&[3, 0, 0]), (4, 0))?;
-    check_eq(judged(&[4, 0, 0]), (4, 0))?;
-    check_eq(judged(&[1, 0, 2, 0, 1, 1, 0, 2, 0, 1, 4, 0, 0]), (4, 5))?;
+    check_eq(judged(b"\0\0\0"), (2, 0))?;
+    check_eq(judged(b"\x05\0\0"), (2, 0))?;
+    check_eq(judged(b"\xff\xff\xff"), (2, 0))?;
+    check_eq(judged(b"\x02\0\x05\0\0\0\0\x01"), (4, 0))?;
+    check_eq(judged(b"\x03\0\0"), (4, 0))?;
+    check_eq(judged(b"\x04\0\0"), (4, 0))?;
+    check_eq(judged(b"\x01\0\x02\0\x01\x01\0\x02\0\x01\x04\0\0"), (4, 5))?;
     check_eq(
-        judged(&[1, 0, 2, 0, 1, 3, 0, 0, 2, 0, 5, 0, 0, 0, 0, 1, 4, 0, 0]),
+        judged(b"\x01\0\x02\0\x01\x03\0\0\x02\0\x05\0\0\0\0\x01\x04\0\0"),
         (4, 8),
     )?;
     check_eq(
-        judged(&[1, 0, 2, 0, 1, 3, 0, 0, 1, 0, 2, 0, 1, 4, 0, 0]),
+        judged(b"\x01\0\x02\0\x01\x03\0\0\x01\0\x02\0\x01\x04\0\0"),
         (4, 8),
     )
 }
 
 #[test]
 fn lengths_that_do_not_fit() -> Result<(), Fail> {
-    check_eq(judged(&[1, 0, 1, 0]), (3, 0))?;
-    check_eq(judged(&[1, 0, 3, 0, 0, 2]), (3, 0))?;
-    check_eq(judged(&[1, 255, 255]), (3, 0))?;
-    check_eq(judged(&[1, 0, 2, 0, 1, 2, 0, 4, 0, 0, 0, 1]), (3, 5))?;
-    check_eq(judged(&[1, 0, 2, 0, 1, 2, 255, 255]), (3, 5))?;
-    check_eq(judged(&[1, 0, 2, 0, 1, 3, 0, 25]), (3, 5))?;
-    check_eq(judged(&[1, 0, 2, 0, 1, 3, 255, 255]), (3, 5))?;
-    check_eq(judged(&[1, 0, 2, 0, 1, 3, 1, 0]), (3, 5))?;
-    check_eq(judged(&[1, 0, 2, 0, 1, 4, 0, 1, 0]), (3, 5))?;
-    check_eq(judged(&[1, 0, 2, 0, 1, 4, 255, 255]), (3, 5))
+    check_eq(judged(b"\x01\0\x01\0"), (3, 0))?;
+    check_eq(judged(b"\x01\0\x03\0\0\x02"), (3, 0))?;
+    check_eq(judged(b"\x01\xff\xff"), (3, 0))?;
+    check_eq(judged(b"\x01\0\x02\0\x01\x02\0\x04\0\0\0\x01"), (3, 5))?;
+    check_eq(judged(b"\x01\0\x02\0\x01\x02\xff\xff"), (3, 5))?;
+    check_eq(judged(b"\x01\0\x02\0\x01\x03\0\x19"), (3, 5))?;
+    check_eq(judged(b"\x01\0\x02\0\x01\x03\xff\xff"), (3, 5))?;
+    check_eq(judged(b"\x01\0\x02\0\x01\x03\x01\0"), (3, 5))?;
+    check_eq(judged(b"\x01\0\x02\0\x01\x04\0\x01\0"), (3, 5))?;
+    check_eq(judged(b"\x01\0\x02\0\x01\x04\xff\xff"), (3, 5))
 }
 
 #[test]
 fn numbers_out_of_range() -> Result<(), Fail> {
-    check_eq(judged(&[1, 0, 2, 0, 56, 4, 0, 0]), (0, 0))?;
-    check_eq(judged(&[1, 0, 2, 0, 57, 4, 0, 0]), (5, 0))?;
-    check_eq(judged(&[1, 0, 2, 1, 0, 4, 0, 0]), (5, 0))?;
+    check_eq(judged(b"\x01\0\x02\0\x38\x04\0\0"), (0, 0))?;
+    check_eq(judged(b"\x01\0\x02\0\x39\x04\0\0"), (5, 0))?;
+    check_eq(judged(b"\x01\0\x02\x01\0\x04\0\0"), (5, 0))?;
     check_eq(
-        judged(&[1, 0, 2, 0, 1, 2, 0, 5, 2, 0, 0, 0, 1, 4, 0, 0]),
+        judged(b"\x01\0\x02\0\x01\x02\0\x05\x02\0\0\0\x01\x04\0\0"),
         (6, 5),
     )?;
-    check_eq(judged(&[1, 0, 2, 0, 1, 3, 0, 2, 1, 2, 4, 0, 0]), (6, 5))?;
-    check_eq(judged(&[1, 0, 2, 0, 0, 3, 0, 0, 4, 0, 0]), (0, 0))?;
+    check_eq(
+        judged(b"\x01\0\x02\0\x01\x03\0\x02\x01\x02\x04\0\0"),
+        (6, 5),
+    )?;
+    check_eq(judged(b"\x01\0\x02\0\0\x03\0\0\x04\0\0"), (0, 0))?;
     let mut damaged = TWO;
     damaged[41] = 4;
     check_eq(judged(&damaged), (6, 37))
@@ -218,69 +128,15 @@ fn numbers_out_of_range() -> Result<(), Fail> {
 #[test]
 fn amounts_that_rise_and_are_not_zero() -> Result<(), Fail> {
     check_eq(
-        judged(
-            &[
-                1,
-                0,
-                2,
-                0,
-                1,
-                2,
-                0,
-                5,
-                1,
-                0,
-                0,
-                0,
-                1,
-                2,
-                0,
-                5,
-                0,
-                0,
-                0,
-                0,
-                1,
-                4,
-                0,
-                0,
-            ],
-        ),
+        judged(b"\x01\0\x02\0\x01\x02\0\x05\x01\0\0\0\x01\x02\0\x05\0\0\0\0\x01\x04\0\0"),
         (7, 13),
     )?;
     check_eq(
-        judged(
-            &[
-                1,
-                0,
-                2,
-                0,
-                1,
-                2,
-                0,
-                5,
-                1,
-                0,
-                0,
-                0,
-                1,
-                2,
-                0,
-                5,
-                1,
-                0,
-                0,
-                0,
-                1,
-                4,
-                0,
-                0,
-            ],
-        ),
+        judged(b"\x01\0\x02\0\x01\x02\0\x05\x01\0\0\0\x01\x02\0\x05\x01\0\0\0\x01\x04\0\0"),
         (7, 13),
     )?;
     check_eq(
-        judged(&[1, 0, 2, 0, 1, 2, 0, 5, 1, 0, 0, 0, 0, 4, 0, 0]),
+        judged(b"\x01\0\x02\0\x01\x02\0\x05\x01\0\0\0\0\x04\0\0"),
         (8, 5),
     )
 }
@@ -289,82 +145,28 @@ fn amounts_that_rise_and_are_not_zero() -> Result<(), Fail> {
 #[test]
 fn pairs_of_faults() -> Result<(), Fail> {
     // cut in the header before the unknown tag
-    check_eq(judged(&[9, 0]), (1, 0))?;
+    check_eq(judged(b"\x09\0"), (1, 0))?;
     // an unknown tag before its length
-    check_eq(judged(&[9, 255, 255]), (2, 0))?;
+    check_eq(judged(b"\x09\xff\xff"), (2, 0))?;
     // out of order before its length
-    check_eq(judged(&[4, 0, 9]), (4, 0))?;
+    check_eq(judged(b"\x04\0\x09"), (4, 0))?;
     // the length before the cut content
-    check_eq(judged(&[1, 0, 9, 0]), (3, 0))?;
+    check_eq(judged(b"\x01\0\x09\0"), (3, 0))?;
     // the cut content before the number of options
-    check_eq(judged(&[1, 0, 2, 255]), (1, 0))?;
+    check_eq(judged(b"\x01\0\x02\xff"), (1, 0))?;
     // no such literal before not rising and before an amount of 0
     check_eq(
-        judged(
-            &[
-                1,
-                0,
-                2,
-                0,
-                1,
-                2,
-                0,
-                5,
-                1,
-                0,
-                0,
-                0,
-                1,
-                2,
-                0,
-                5,
-                9,
-                0,
-                0,
-                0,
-                0,
-                4,
-                0,
-                0,
-            ],
-        ),
+        judged(b"\x01\0\x02\0\x01\x02\0\x05\x01\0\0\0\x01\x02\0\x05\x09\0\0\0\0\x04\0\0"),
         (6, 13),
     )?;
     // not rising before an amount of 0
     check_eq(
-        judged(
-            &[
-                1,
-                0,
-                2,
-                0,
-                1,
-                2,
-                0,
-                5,
-                1,
-                0,
-                0,
-                0,
-                1,
-                2,
-                0,
-                5,
-                0,
-                0,
-                0,
-                0,
-                0,
-                4,
-                0,
-                0,
-            ],
-        ),
+        judged(b"\x01\0\x02\0\x01\x02\0\x05\x01\0\0\0\x01\x02\0\x05\0\0\0\0\0\x04\0\0"),
         (7, 13),
     )?;
     // the first faulty field counts
     check_eq(
-        judged(&[1, 0, 2, 0, 1, 2, 0, 5, 1, 0, 0, 0, 0, 9, 9, 9]),
+        judged(b"\x01\0\x02\0\x01\x02\0\x05\x01\0\0\0\0\x09\x09\x09"),
         (8, 5),
     )
 }

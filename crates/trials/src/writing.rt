@@ -13,50 +13,8 @@ use cases::refusal::RefusalPartialEq;
 use cases::summary::Summary;
 use std::test::*;
 
-const LADDER: [u8; 42] = [
-    1,
-    0,
-    2,
-    0,
-    3,
-    2,
-    0,
-    5,
-    1,
-    0,
-    0,
-    0,
-    7,
-    2,
-    0,
-    5,
-    3,
-    0,
-    0,
-    0,
-    7,
-    2,
-    0,
-    5,
-    5,
-    0,
-    0,
-    0,
-    7,
-    3,
-    0,
-    2,
-    3,
-    0,
-    3,
-    0,
-    2,
-    5,
-    2,
-    4,
-    0,
-    0,
-];
+const LADDER: &[u8; 42] =
+    b"\x01\0\x02\0\x03\x02\0\x05\x01\0\0\0\x07\x02\0\x05\x03\0\0\0\x07\x02\0\x05\x05\0\0\0\x07\x03\0\x02\x03\0\x03\0\x02\x05\x02\x04\0\0";
 
 #[test]
 fn a_ladder_of_three() -> Result<(), Fail> {

@@ -1,0 +1,3 @@
+pub mod Counting
+pub mod GroupChecks
+pub mod GroupLaw

@@ -1,0 +1,10 @@
+pub mod Layered
+pub mod Tariffs
+pub mod Opens
+pub mod Checks
+pub mod Apart
+pub mod Rows
+pub mod RowViews
+pub mod Readings
+pub mod OpenLaws
+pub mod facts

@@ -1,0 +1,4 @@
+pub mod AlikeLaw
+pub mod Pairs
+pub mod OpenCharges
+pub mod WishCharges
