@@ -1,0 +1,15 @@
+pub mod Scans
+pub mod Trails
+pub mod States
+pub mod Learned
+pub mod Changes
+pub mod Calculus
+pub mod Priority
+pub mod Steps
+pub mod Runs
+pub mod Checks
+pub mod Calls
+pub mod Books
+pub mod Promises
+pub mod Piles
+pub mod Examples

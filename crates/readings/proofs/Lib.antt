@@ -1,0 +1,4 @@
+pub mod Lowering
+pub mod OpenReading
+pub mod WishReading
+pub mod Examples
