@@ -2,7 +2,7 @@
 -- what a step keeps.
 use Rattle.std.proofs.Common.{◌≡◌, ℕ, zero, suc, ◌+◌, ◌<◌, ◌≤◌, Bool, true, false, cond, not, ltb, leb, List, [], ◌∷◌, ◌++◌, length, get_or, sym, refl, ap, ◌∙◌, subst, inl, inr, ⊎_elim, append_assoc, not-suc-le-zero, arith}
 use mathlib.Core.Option.{Option, none, some}
-use Rattle.std.proofs.lemmas.Bool.{both_ways, cases_Bool, and_parts, and_from, not_false}
+use Rattle.std.proofs.lemmas.Bool.{both_ways, cases_Bool, and_parts, and_from, not-false}
 use Rattle.cases.specs.Meanings.{Sound, sound}
 use Rattle.cases.specs.Summaries.{charged}
 use Rattle.cases.specs.declared.refusal.Refusal.{Refusal}
@@ -162,7 +162,7 @@ module _ (K : Kind) (laws : Laws K) (m : Sound) (limited : Limited (sound m)) wh
   best_stays : (best : Option (Best K)) (r : List ℕ) → breaks best r ≡ false → (b : Best K) → best ≡ some b → keeps (sets b.choice) r ≡ true
   unfolding breaks
   best_stays none r h b q = absurd (none_some q)
-  best_stays (some a) r h b q = subst (λ (z : Best K). keeps (sets z.choice) r ≡ true) (some_same q) (not_false (keeps (sets a.choice) r) h)
+  best_stays (some a) r h b q = subst (λ (z : Best K). keeps (sets z.choice) r ≡ true) (some_same q) (not-false (keeps (sets a.choice) r) h)
 
   add_inv : (s : State K) (r : List ℕ) (b : Bool) → breaks s.best r ≡ b → Inv K m s → exist m.options r ≡ true → Inv K m (added s r b)
   unfolding added in_force

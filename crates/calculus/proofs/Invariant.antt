@@ -2,7 +2,7 @@
 use Rattle.std.proofs.Common.{◌≡◌, ℕ, zero, suc, ◌+◌, ◌-◌, ◌*◌, ◌/◌, ◌<◌, ◌≤◌, Bool, true, false, cond, not, ◌&&◌, eqb, ltb, List, [], ◌∷◌, ◌++◌, map, length, get_or, sym, refl, ap, ◌∙◌, subst, ⊎_elim, not-suc-le-zero, arith, length-append}
 use mathlib.Core.Option.{Option, none, some}
 use lib.ListN.{get_or-append, get_or-map, length-map}
-use Rattle.std.proofs.lemmas.Bool.{both_ways, cases_Bool, or_left, or_right, and_parts, and_from, not-true, not_false, cases_lt, cases_eq, ne_eqb, lt-ltb}
+use Rattle.std.proofs.lemmas.Bool.{both_ways, cases_Bool, or_left, or_right, and_parts, and_from, not-true, not-false, cases_lt, cases_eq, ne_eqb, lt-ltb}
 use Rattle.cases.specs.Meanings.{Sound, sound}
 use Rattle.cases.specs.Literals.{Literals, members, complement}
 use Rattle.cases.specs.Choices.{keeps_all, sets}
@@ -152,7 +152,7 @@ module _ (K : Kind) (laws : Laws K) (m : Sound) (limited : Limited (sound m)) wh
       held : (y : ℕ) → y < 2 * m.options → on t y ≡ true → (on t (complement (complement y)) && sets c (complement y)) ≡ false → sets c y ≡ true
       held y l k f =
           let g : (on t y && sets c (complement y)) ≡ false = subst (λ (z : ℕ). (on t z && sets c (complement y)) ≡ false) (complement_twice y) f in
-          not_false (sets c y) (sym (sets_complement c y) ∙ (rw k at g))
+          not-false (sets c y) (sym (sets_complement c y) ∙ (rw k at g))
 
   -- Improve: what is better than the new best is better than the old one.
   pub better_old : (old : Option (Best K)) (new : Best K) (S R : Literals) → new.charge ≡ charge K m S → Better K m old S → Better K m (some new) R → Better K m old R

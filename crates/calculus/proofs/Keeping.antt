@@ -2,7 +2,7 @@
 use Rattle.std.proofs.Common.{◌≡◌, ℕ, suc, ◌+◌, ◌*◌, ◌<◌, ◌≤◌, Bool, true, false, cond, not, ◌&&◌, eqb, List, [], ◌∷◌, ◌++◌, map, length, get_or, sym, refl, ap, ◌∙◌, subst, ⊎_elim, append_assoc, arith, length-append, pow_mono}
 use mathlib.Core.Option.{Option, none, some}
 use lib.ListN.{get_or-append, length-map}
-use Rattle.std.proofs.lemmas.Bool.{both_ways, cases_Bool, or_cases, and_parts, not-true, not_false, cases_lt, eqb-true, eqb-false}
+use Rattle.std.proofs.lemmas.Bool.{both_ways, cases_Bool, or_cases, and_parts, not-true, not-false, cases_lt, eqb-true, eqb-false}
 use Rattle.cases.specs.Meanings.{Sound, sound}
 use Rattle.cases.specs.Literals.{Literals, complement, members}
 use Rattle.cases.specs.Choices.{keeps_all, sets}

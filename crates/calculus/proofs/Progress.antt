@@ -2,7 +2,7 @@
 -- the laws of the kind and the limits of the pile.
 use Rattle.std.proofs.Common.{◌≡◌, ℕ, suc, ◌+◌, ◌*◌, ◌<◌, Bool, true, false, not, ◌↔◌, [], ◌∷◌, length, get_or, sym, refl, ap, ◌∙◌, subst, arith}
 use mathlib.Core.Option.{Option, none, some}
-use Rattle.std.proofs.lemmas.Bool.{both_ways, not_false, true≢false, lt-ltb, cond_both}
+use Rattle.std.proofs.lemmas.Bool.{both_ways, not-false, true≢false, lt-ltb, cond_both}
 use Rattle.cases.specs.Meanings.{Sound, sound}
 use Rattle.cases.specs.Literals.{Literals, complement}
 use Rattle.cases.specs.Choices.{keeps_all, sets}
@@ -103,7 +103,7 @@ module _ (K : Kind) (laws : Laws K) (m : Sound) (limited : Limited (sound m)) (s
       keeps_each (sets (choice_of n (on t))) (in_force m s)
       (λ i l.
       let w = false_no n t (clause (clauses m s) i) (place_none (is_false n t) (clauses m s) (λ _. false) e i (omega (arith, length-clauses m s))) in
-      let true_on : on t w.0 ≡ true = not_false (on t w.0) (sym (both w.0 w.1) ∙ w.3) in
+      let true_on : on t w.0 ≡ true = not-false (on t w.0) (sym (both w.0 w.1) ∙ w.3) in
       rule_by_kept (sets (choice_of n (on t))) (get_or (in_force m s) i []) w.0 (subst (λ (C : Literals). C w.0 ≡ true) (clause_rule m s i l) w.2) (sets_choice n (on t) both w.0 w.1 ∙ true_on))
 
   completes : (b : Bool) → any m.options (unset s.trail) ≡ b → s.conflict ≡ none → place (is_false m.options s.trail) (clauses m s) ≡ none
@@ -199,7 +199,7 @@ module _ (K : Kind) (laws : Laws K) (m : Sound) (limited : Limited (sound m)) (s
   by_conflicts none c f = forwards (place (is_false m.options s.trail) (clauses m s)) refl c
   by_conflicts (some D) c f =
       let z : empty_set m.options (some D) ≡ false = subst (λ (o : Option Literals). empty_set m.options o ≡ false) c f in
-      let w = any_some (2 * m.options) D (not_false (any (2 * m.options) D) z) in
+      let w = any_some (2 * m.options) D (not-false (any (2 * m.options) D) z) in
       backwards D (can_backtrack m.options s.trail D) refl c (w.0, w.1, w.2)
 
   pub stepped : closed m s ≡ false → Stepped K m s (step K m s)

@@ -1,7 +1,7 @@
 -- The questions that a step asks, each against what the calculus says, from the definitions of the tests.
 use Rattle.std.proofs.Common.{◌≡◌, ℕ, suc, ◌+◌, ◌*◌, ◌/◌, ◌<◌, ◌≤◌, true, false, not, ◌&&◌, eqb, leb, ◌∷◌, sym, refl, ap, ◌∙◌, subst, inl, inr, ⊎_elim, arith}
 use mathlib.Core.Option.{Option, none, some}
-use Rattle.std.proofs.lemmas.Bool.{both_ways, cases_Bool, and_parts, and_from, not-true, not_false, true≢false, cases_eq, leb-true, le-leb, eqb-true, eqb-false, eq-eqb, ne_eqb}
+use Rattle.std.proofs.lemmas.Bool.{both_ways, cases_Bool, and_parts, and_from, not-true, not-false, true≢false, cases_eq, leb-true, le-leb, eqb-true, eqb-false, eq-eqb, ne_eqb}
 use Rattle.cases.specs.Meanings.{Sound}
 use Rattle.cases.specs.Literals.{Literals, complement}
 use Rattle.charges.specs.Charges.{charge}
@@ -36,7 +36,7 @@ false_yes n t C h x l k = dead t C x k (λ q. both_ways (alive t C x) (any_no (2
 pub false_no : (n : ℕ) (t : Trail) (C : Literals) → is_false n t C ≡ false → (x : ℕ) × (x < 2 * n) × (C x ≡ true) × (on t (complement x) ≡ false)
 unfolding is_false
 false_no n t C h =
-    let w = any_some (2 * n) (alive t C) (not_false (any (2 * n) (alive t C)) h) in
+    let w = any_some (2 * n) (alive t C) (not-false (any (2 * n) (alive t C)) h) in
     let p = alive_parts t C w.0 w.2 in
     (w.0, w.1, p.0, p.1)
 
@@ -78,7 +78,7 @@ forces_unit n t C l f =
 pub quiet : (n : ℕ) (t : Trail) (C : Literals) → is_false n t C ≡ false → is_unit n t C ≡ false → Quiet n t C
 unfolding is_false
 quiet n t C f u =
-    let some_alive : any (2 * n) (alive t C) ≡ true = not_false (any (2 * n) (alive t C)) f in
+    let some_alive : any (2 * n) (alive t C) ≡ true = not-false (any (2 * n) (alive t C)) f in
     let one = first_yes (2 * n) (alive t C) some_alive in
     let x = first (2 * n) (alive t C) in
     let p = alive_parts t C x one.1 in

@@ -4,8 +4,8 @@ use Rattle.casefile.specs.Files.{parse, judge_from}
 use Rattle.casefile.specs.Facts.Whole.{below_octets}
 use Rattle.casefile.proofs.open.empty.Goals as goal
 
-pub invariant-of-result : goal.invariant-of-result
+pub invariant_of-result : goal.invariant_of-result
 unfolding parse judge_from
-invariant-of-result c =
+invariant_of-result c =
     let f = (c.new.ensures.blank empty_file).0 in
-    (below_octets empty_file refl, (refl, (f.counted, (f.ruled, (f.priced, (f.inside, (f.sized, (f.same, tt))))))))
+    record { octets = below_octets empty_file refl; accepted = refl; counted = f.counted; ruled = f.ruled; priced = f.priced; inside = f.inside; sized = f.sized; same = f.same }

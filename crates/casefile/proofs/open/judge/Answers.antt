@@ -13,7 +13,7 @@ use Rattle.casefile.specs.Facts.Reads.{Reads, reads}
 use Rattle.casefile.specs.Facts.Same.{same}
 use Rattle.casefile.proofs.Turns.{refuse, erred, ends, goes_on, moved, stands, reaches, ReachBy, noted_ok, noted_err, accepted_shows}
 use Rattle.casefile.proofs.open.judge.Goals as goal
-use Rattle.casefile.proofs.open.judge.Goals.{In-default, In-Some}
+use Rattle.casefile.proofs.open.judge.Goals.{In_default, In-Some}
 
 pub loop-field-init : goal.loop-field-init
 loop-field-init c =
@@ -32,23 +32,23 @@ loop-field-init c =
       ),
     )
 
-pub returns-in-err-field : goal.returns-in-err-field
-returns-in-err-field c =
+pub returns-in_err-field : goal.returns-in_err-field
+returns-in_err-field c =
     let i = c.loop-field.invariant in
     let r = c.loop-field.reader in
-    let p = err_from_is_err_and c.from-residual.result c.from-residual.ensures.1 in
-    let b = c.in-err-field.field-0.0 in
+    let p = err_from_is_err_and c.from_residual.result c.from_residual.ensures.1 in
+    let b = c.in_err-field.field-0.0 in
     let w = c.next.new.self in
     subst (Judged c.args.bytes.now) (sym (p.1 ∙ ap Err p.2))
     (sym i.2.6 ∙ refuse i.2.1 (length c.args.bytes.now - r.at) i.2.0 r.phase r.bytes.now c.args.bytes.now r.at i.0 i.2.5
-    b.fault b.place w.phase w.at c.in-err-field.ensures.gave)
+    b.fault b.place w.phase w.at c.in_err-field.ensures.gave)
 
-gave_none : (c : In-default) → gave_nothing c.next.new.self.phase c.next.new.self.at ≡ next c.loop-field.reader.phase c.loop-field.reader.bytes.now c.loop-field.reader.at
+gave_none : (c : In_default) → gave_nothing c.next.new.self.phase c.next.new.self.at ≡ next c.loop-field.reader.phase c.loop-field.reader.bytes.now c.loop-field.reader.at
 gave_none c =
-    ap (λ (z : Option Field). given (Ok z) c.next.new.self.phase c.next.new.self.at) (sym c.in-default.is) ∙ c.in-ok-field.ensures.gave
+    ap (λ (z : Option Field). given (Ok z) c.next.new.self.phase c.next.new.self.at) (sym c.in_default.is) ∙ c.in_ok-field.ensures.gave
 
-pub returns-in-default : goal.returns-in-default
-returns-in-default c =
+pub returns-in_default : goal.returns-in_default
+returns-in_default c =
     let i = c.loop-field.invariant in
     let r = c.loop-field.reader in
     let b = c.args.bytes.now in
@@ -60,7 +60,7 @@ returns-in-default c =
 -- the field that was given, and how it stands in the file
 gave_field : (c : In-Some) → gave (item c.in-Some.field) c.next.new.self.phase c.next.new.self.at ≡ next c.loop-field.reader.phase c.loop-field.reader.bytes.now c.loop-field.reader.at
 gave_field c =
-    ap (λ (z : Option Field). given (Ok z) c.next.new.self.phase c.next.new.self.at) (sym c.in-Some.is) ∙ c.in-ok-field.ensures.gave
+    ap (λ (z : Option Field). given (Ok z) c.next.new.self.phase c.next.new.self.at) (sym c.in-Some.is) ∙ c.in_ok-field.ensures.gave
 
 reads_field : (c : In-Some) → Reads c.loop-field.reader.phase c.args.bytes.now c.loop-field.reader.at (item c.in-Some.field) c.next.new.self.phase c.next.new.self.at
 reads_field c =
@@ -108,9 +108,9 @@ loop-field-preserved c =
     let rd = reads_field d in
     let m = moved r.phase b r.at it w.phase w.at rd in
     let at_place = subst (λ (k : ℕ). Stands b k it) (sym c.place-place.ensures) (stands_field d) in
-    let t = noted_ok b (judged s it) c.in-default-note.field-0 c.note.new.self (c.in-default-note.ensures.noted b s i.2.3 at_place) in
-    let o : Octets b = λ k _. omega (arith, c.type-inv.bytes k) in (
-      c.in-ok-field.ensures.bytes ∙ i.0,
+    let t = noted_ok b (judged s it) c.in_default-note.field-0 c.note.new.self (c.in_default-note.ensures.noted b s i.2.3 at_place) in
+    let o : Octets b = λ k _. omega (arith, c.type_inv.bytes k) in (
+      c.in_ok-field.ensures.bytes ∙ i.0,
       m.1,
       (
         t.0,

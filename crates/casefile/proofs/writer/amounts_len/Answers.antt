@@ -11,7 +11,7 @@ loop-l-preserved g c =
     let l = c.loop-l.l in
     let h : l < length as1 = omega (arith, (g.C.Case.limits c.args.case.now).amount_each) in
     let e = amounts_next as1 l c.amount.result h c.amount.ensures in
-    (omega (arith, ap length e, length-append (amount_fields 0 (take l as1)) (charge_field l c.amount.result), c.amount-len-n.ensures.value), omega (arith, c.amount-len-n.ensures.small))
+    (omega (arith, ap length e, length-append (amount_fields 0 (take l as1)) (charge_field l c.amount.result), c.amount_len-n.ensures.value), omega (arith, c.amount_len-n.ensures.small))
 
 pub returns : goal.returns
 returns g c =

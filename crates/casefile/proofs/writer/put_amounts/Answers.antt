@@ -9,8 +9,8 @@ use Rattle.casefile.proofs.writer.put_amounts.Goals as goal
 pub loop-l-init : goal.loop-l-init
 loop-l-init g c = (sym (over_none c.args.from c.args.out.now), sym (add-zero c.args.from))
 
-pub put-amount-at-requires : goal.put-amount-at-requires
-put-amount-at-requires g c =
+pub put_amount-at-requires : goal.put_amount-at-requires
+put_amount-at-requires g c =
     let as1 = amounts_of (g.C.Case.meaning c.args.case.now) in
     let l = c.loop-l.l in
     let h : l < length as1 = omega (arith, (g.C.Case.limits c.args.case.now).amount_each) in
@@ -23,10 +23,10 @@ loop-l-preserved g c =
     let l = c.loop-l.l in
     let h : l < length as1 = omega (arith, (g.C.Case.limits c.args.case.now).amount_each) in
     let e = amounts_next as1 l c.amount.result h c.amount.ensures in (
-      next_over c.args.from c.args.out.now (amount_fields 0 (take l as1)) (charge_field l c.amount.result) c.loop-l.out c.put-amount-at.new.out c.loop-l.at
-          c.loop-l.invariant.1 (omega (arith, amounts_part as1 l)) c.loop-l.invariant.0 c.put-amount-at.ensures.after
+      next_over c.args.from c.args.out.now (amount_fields 0 (take l as1)) (charge_field l c.amount.result) c.loop-l.out c.put_amount-at.new.out c.loop-l.at
+          c.loop-l.invariant.1 (omega (arith, amounts_part as1 l)) c.loop-l.invariant.0 c.put_amount-at.ensures.after
           ∙ ap (over c.args.from c.args.out.now) (sym e),
-      omega (arith, ap length e, length-append (amount_fields 0 (take l as1)) (charge_field l c.amount.result), c.loop-l.invariant.1, c.put-amount-at.ensures.value),
+      omega (arith, ap length e, length-append (amount_fields 0 (take l as1)) (charge_field l c.amount.result), c.loop-l.invariant.1, c.put_amount-at.ensures.value),
     )
 
 pub returns : goal.returns

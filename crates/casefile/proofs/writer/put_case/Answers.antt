@@ -9,17 +9,17 @@ use Rattle.casefile.proofs.writer.put_case.Goals as goal
 room : (m : Rattle.cases.specs.Meanings.Meaning) → length (encode_told m) ≡ 5 + length (amount_fields 0 (amounts_of m)) + length (rule_fields (rules_of m)) + 3
 room m = omega (arith, length-append (options_field (options_of m)) (amount_fields 0 (amounts_of m) ++ (rule_fields (rules_of m) ++ field 4 [])), length-append (amount_fields 0 (amounts_of m)) (rule_fields (rules_of m) ++ field 4 []), length-append (rule_fields (rules_of m)) (field 4 []))
 
-pub put-amounts-from-requires : goal.put-amounts-from-requires
-put-amounts-from-requires g c = omega (arith, room (g.C.Case.meaning c.args.case.now))
+pub put_amounts-from-requires : goal.put_amounts-from-requires
+put_amounts-from-requires g c = omega (arith, room (g.C.Case.meaning c.args.case.now))
 
-pub put-rules-at-requires : goal.put-rules-at-requires
-put-rules-at-requires g c = omega (arith, room (g.C.Case.meaning c.args.case.now))
+pub put_rules-at-requires : goal.put_rules-at-requires
+put_rules-at-requires g c = omega (arith, room (g.C.Case.meaning c.args.case.now))
 
 pub put-requires : goal.put-requires
 put-requires g c = omega (arith, room (g.C.Case.meaning c.args.case.now))
 
-pub overflow-add-result : goal.overflow-add-result
-overflow-add-result g c = omega (arith, room (g.C.Case.meaning c.args.case.now))
+pub overflow_add-result : goal.overflow_add-result
+overflow_add-result g c = omega (arith, room (g.C.Case.meaning c.args.case.now))
 
 pub returns : goal.returns
 returns g c =
@@ -27,7 +27,7 @@ returns g c =
     record {
       value = omega (arith, room m);
       after = four_over c.args.out.now (options_field (options_of m)) (amount_fields 0 (amounts_of m)) (rule_fields (rules_of m)) (field 4 [])
-          c.put-options.new.out c.put-amounts-from.new.out c.put-rules-at.new.out c.put.new.out c.put-amounts-from.result c.put-rules-at.result
-          c.put-amounts-from.ensures.value c.put-rules-at.ensures.value c.requires
-          (c.put-options.ensures ∙ ap (λ (n : ℕ). over 0 c.args.out.now (options_field n)) c.options.ensures) c.put-amounts-from.ensures.after c.put-rules-at.ensures.after c.put.ensures;
+          c.put_options.new.out c.put_amounts-from.new.out c.put_rules-at.new.out c.put.new.out c.put_amounts-from.result c.put_rules-at.result
+          c.put_amounts-from.ensures.value c.put_rules-at.ensures.value c.requires
+          (c.put_options.ensures ∙ ap (λ (n : ℕ). over 0 c.args.out.now (options_field n)) c.options.ensures) c.put_amounts-from.ensures.after c.put_rules-at.ensures.after c.put.ensures;
     }

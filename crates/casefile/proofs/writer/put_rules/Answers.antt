@@ -9,8 +9,8 @@ use Rattle.casefile.proofs.writer.put_rules.Goals as goal
 pub loop-r-init : goal.loop-r-init
 loop-r-init g c = (sym (over_none c.args.from c.args.out.now), sym (add-zero c.args.from))
 
-pub put-rule-at-requires : goal.put-rule-at-requires
-put-rule-at-requires g c =
+pub put_rule-at-requires : goal.put_rule-at-requires
+put_rule-at-requires g c =
     let rs = rules_of (g.C.Case.meaning c.args.case.now) in
     let r = c.loop-r.r in
     let h : r < length rs = omega arith in
@@ -21,10 +21,10 @@ loop-r-preserved g c =
     let rs = rules_of (g.C.Case.meaning c.args.case.now) in
     let r = c.loop-r.r in
     let h : r < length rs = omega arith in (
-      next_over c.args.from c.args.out.now (rule_fields (take r rs)) (field 3 (get_or rs r [])) c.loop-r.out c.put-rule-at.new.out c.loop-r.at
-          c.loop-r.invariant.1 (omega (arith, rules_part rs r)) c.loop-r.invariant.0 c.put-rule-at.ensures.after
+      next_over c.args.from c.args.out.now (rule_fields (take r rs)) (field 3 (get_or rs r [])) c.loop-r.out c.put_rule-at.new.out c.loop-r.at
+          c.loop-r.invariant.1 (omega (arith, rules_part rs r)) c.loop-r.invariant.0 c.put_rule-at.ensures.after
           ∙ ap (over c.args.from c.args.out.now) (sym (rules_more rs r h)),
-      omega (arith, ap length (rules_more rs r h), length-append (rule_fields (take r rs)) (field 3 (get_or rs r [])), c.loop-r.invariant.1, c.put-rule-at.ensures.value),
+      omega (arith, ap length (rules_more rs r h), length-append (rule_fields (take r rs)) (field 3 (get_or rs r [])), c.loop-r.invariant.1, c.put_rule-at.ensures.value),
     )
 
 pub returns : goal.returns

@@ -5,11 +5,11 @@ use Rattle.casefile.specs.Bytes.{field, rule_fields}
 use Rattle.casefile.proofs.Over.{rules_more}
 use Rattle.casefile.proofs.writer.rules_len.Goals as goal
 
-pub overflow-add-n : goal.overflow-add-n
-overflow-add-n g c = omega (arith, (g.C.Case.limits c.args.case.now).short_rules c.loop-r.r)
+pub overflow_add-n : goal.overflow_add-n
+overflow_add-n g c = omega (arith, (g.C.Case.limits c.args.case.now).short_rules c.loop-r.r)
 
-pub overflow-add-n-in-loop-r : goal.overflow-add-n-in-loop-r
-overflow-add-n-in-loop-r g c = omega (arith, (g.C.Case.limits c.args.case.now).short_rules c.loop-r.r, (g.C.Case.limits c.args.case.now).few_rules)
+pub overflow_add-n-in-loop-r : goal.overflow_add-n-in-loop-r
+overflow_add-n-in-loop-r g c = omega (arith, (g.C.Case.limits c.args.case.now).short_rules c.loop-r.r, (g.C.Case.limits c.args.case.now).few_rules)
 
 pub loop-r-preserved : goal.loop-r-preserved
 loop-r-preserved g c =

@@ -4,17 +4,17 @@ use Rattle.cases.specs.Meanings.{rules_of}
 use Rattle.cases.proofs.Keeping.{breaks_here, kept_so_far, kept_all}
 use Rattle.cases.proofs.choices.keeps_rules.Goals as goal
 
-pub returns-then-not-keeps-rule : goal.returns-then-not-keeps-rule
-returns-then-not-keeps-rule g c =
+pub returns-then-not-keeps_rule : goal.returns-then-not-keeps_rule
+returns-then-not-keeps_rule g c =
     let rules = rules_of (g.C.Case.meaning c.args.case.now) in
     let h : c.loop-r.r < length rules = omega arith in
-    sym (breaks_here (sets c.args.choice.now) rules c.loop-r.r h c.if-not-keeps-rule.ensures) ∙ c.loop-r.invariant
+    sym (breaks_here (sets c.args.choice.now) rules c.loop-r.r h c.if-not-keeps_rule.ensures) ∙ c.loop-r.invariant
 
 pub loop-r-preserved : goal.loop-r-preserved
 loop-r-preserved g c =
     let rules = rules_of (g.C.Case.meaning c.args.case.now) in
     let h : c.loop-r.r < length rules = omega arith in
-    sym (kept_so_far (sets c.args.choice.now) rules c.loop-r.r h c.if-not-keeps-rule.ensures) ∙ c.loop-r.invariant
+    sym (kept_so_far (sets c.args.choice.now) rules c.loop-r.r h c.if-not-keeps_rule.ensures) ∙ c.loop-r.invariant
 
 pub returns : goal.returns
 returns g c =

@@ -4,8 +4,8 @@ use Rattle.std.proofs.lemmas.List.Sums.{sum_by_more}
 use Rattle.cases.specs.Meanings.{amounts_of}
 use Rattle.cases.proofs.summary.total_amount.Goals as goal
 
-pub overflow-add-total : goal.overflow-add-total
-overflow-add-total g c = omega (arith, (g.C.Case.limits c.args.case.now).few_options)
+pub overflow_add-total : goal.overflow_add-total
+overflow_add-total g c = omega (arith, (g.C.Case.limits c.args.case.now).few_options)
 
 pub loop-l-preserved : goal.loop-l-preserved
 loop-l-preserved g c =

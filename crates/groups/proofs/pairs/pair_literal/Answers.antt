@@ -13,8 +13,8 @@ small_item row j h =
     let k : j < row.len = omega arith in
     rw (get_or-take row.len row.items j 255 k, get_or_default row.items j 255 0 (omega (arith, len))) (row.small j)
 
-pub not-together-literal-requires : goal.not-together-literal-requires
-not-together-literal-requires c =
+pub not_together_literal-requires : goal.not_together_literal-requires
+not_together_literal-requires c =
     let row = c.args.group.now in (
       omega (arith, c.at.ensures, small_item row c.loop-first.first (omega (arith, c.len-len.ensures))),
       omega (arith, c.at-then-left-after.ensures, small_item row (c.loop-first.first + 1 + c.loop-first.left) (omega (arith, c.len-len.ensures))),
@@ -26,7 +26,7 @@ returns-then-left-after c =
     let i = c.loop-first.first in
     let h : i < length xs = omega (arith, c.len-len.ensures) in
     let k : c.loop-first.left < length xs - i - 1 = omega (arith, c.len-len.ensures) in
-    c.not-together-literal.ensures
+    c.not_together_literal.ensures
     ∙ ap₂ (λ a b. get_or (not_together a b) c.args.j 255) c.at.ensures c.at-then-left-after.ensures
     ∙ ap (λ x. get_or x c.args.j 255) (sym (pair_here xs i c.loop-first.left h k) ∙ c.loop-first.invariant)
 

@@ -4,7 +4,7 @@ use Rattle.layers.proofs.Filling.{fill_turn}
 use Rattle.wishes.proofs.reading.write_first.Goals as goal
 
 pub loop-v-preserved : goal.loop-v-preserved
-loop-v-preserved c = fill_turn (is_on c.args.choice.now) c.args.into.now c.loop-v.into c.loop-v.v c.is-set.result (omega (arith, c.requires)) c.loop-v.invariant c.is-set.ensures
+loop-v-preserved c = fill_turn (is_on c.args.choice.now) c.args.into.now c.loop-v.into c.loop-v.v c.is_set.result (omega (arith, c.requires)) c.loop-v.invariant c.is_set.ensures
 
 pub returns : goal.returns
 returns c =

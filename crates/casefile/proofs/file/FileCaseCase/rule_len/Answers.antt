@@ -4,8 +4,8 @@ use Rattle.casefile.specs.Files.{parse, meant}
 use Rattle.casefile.specs.Facts.Whole.{file_whole}
 use Rattle.casefile.proofs.file.FileCaseCase.rule_len.Goals as goal
 
-pub offset-bounds-self-r : goal.offset-bounds-self-r
-offset-bounds-self-r c = let w = file_whole c.args.self.now.bytes.now c.args.self.now.octets in omega (arith, w.kept.ruled, c.args.self.now.ruled)
+pub offset_bounds-self-r : goal.offset_bounds-self-r
+offset_bounds-self-r c = let w = file_whole c.args.self.now.bytes.now c.args.self.now.octets in omega (arith, w.kept.ruled, c.args.self.now.ruled)
 
 pub bounds-self-r : goal.bounds-self-r
 bounds-self-r c = let w = file_whole c.args.self.now.bytes.now c.args.self.now.octets in omega (arith, w.kept.ruled, c.args.self.now.ruled)

@@ -28,20 +28,20 @@ returns-then-r-rules c =
     let h : length (rules_of m) ≤ c.args.r = omega arith in
     ap (λ x. get_or x c.args.j 255) (sym (rule_out m c.args.r h))
 
-pub overflow-mul-result : goal.overflow-mul-result
-overflow-mul-result c = omega (arith, few (goal.at.overflow-mul-result c).Else-r-rules)
+pub overflow_mul-result : goal.overflow_mul-result
+overflow_mul-result c = omega (arith, few (goal.at.overflow_mul-result c).Else-r-rules)
 
-pub overflow-add-result-in-0 : goal.overflow-add-result-in-0
-overflow-add-result-in-0 c = omega (arith, few (goal.at.overflow-add-result-in-0 c).Else-r-rules)
+pub overflow_add-result-in-0 : goal.overflow_add-result-in-0
+overflow_add-result-in-0 c = omega (arith, few (goal.at.overflow_add-result-in-0 c).Else-r-rules)
 
-pub overflow-cast-result : goal.overflow-cast-result
-overflow-cast-result c = omega (arith, few (goal.at.overflow-cast-result c).Else-r-rules)
+pub overflow_cast-result : goal.overflow_cast-result
+overflow_cast-result c = omega (arith, few (goal.at.overflow_cast-result c).Else-r-rules)
 
-pub overflow-mul-result-in-1 : goal.overflow-mul-result-in-1
-overflow-mul-result-in-1 c = omega (arith, few (goal.at.overflow-mul-result-in-1 c).Else-r-rules)
+pub overflow_mul-result-in-1 : goal.overflow_mul-result-in-1
+overflow_mul-result-in-1 c = omega (arith, few (goal.at.overflow_mul-result-in-1 c).Else-r-rules)
 
-pub overflow-cast-result-in-1 : goal.overflow-cast-result-in-1
-overflow-cast-result-in-1 c = omega (arith, few (goal.at.overflow-cast-result-in-1 c).Else-r-rules)
+pub overflow_cast-result-in-1 : goal.overflow_cast-result-in-1
+overflow_cast-result-in-1 c = omega (arith, few (goal.at.overflow_cast-result-in-1 c).Else-r-rules)
 
 pub returns-in-0 : goal.returns-in-0
 returns-in-0 c = told (goal.at.returns-in-0 c).Else-r-rules 0 (sym c.in-0.is)
@@ -49,5 +49,5 @@ returns-in-0 c = told (goal.at.returns-in-0 c).Else-r-rules 0 (sym c.in-0.is)
 pub returns-in-1 : goal.returns-in-1
 returns-in-1 c = told (goal.at.returns-in-1 c).Else-r-rules 1 (sym c.in-1.is)
 
-pub returns-in-default : goal.returns-in-default
-returns-in-default c = sym (past c.args.r c.args.j (λ e. omega arith) (λ e. omega arith)) ∙ told (goal.at.returns-in-default c).Else-r-rules c.args.j refl
+pub returns-in_default : goal.returns-in_default
+returns-in_default c = sym (past c.args.r c.args.j (λ e. omega arith) (λ e. omega arith)) ∙ told (goal.at.returns-in_default c).Else-r-rules c.args.j refl

@@ -17,6 +17,6 @@ returns-else-r-rules g c =
     let s = c.args.self.now in
     let m = g.C.Case.meaning s.below in
     let h : length (rules_of m) ≤ c.args.r = omega (arith, c.rules-rules.ensures) in
-    c.added-literal.ensures
+    c.added_literal.ensures
     ∙ ap (λ n. get_or (get_or (group_rules (groups_of s)) (c.args.r - n) []) c.args.j 255) c.rules-rules.ensures
     ∙ ap (λ x. get_or x c.args.j 255) (sym (group_rule_added (groups_of s) m (sym c.if-oversize.ensures) c.args.r h))

@@ -11,7 +11,7 @@ returns-then-r-rules g c =
     let s = c.args.self.now in
     let m = g.C.Case.meaning s.below in
     let h : c.args.r < length (rules_of m) = omega (arith, c.rules-rules.ensures) in
-    c.rule-len.ensures ∙ ap length (sym (group_rule_kept (groups_of s) m (sym c.if-oversize.ensures) c.args.r h))
+    c.rule_len.ensures ∙ ap length (sym (group_rule_kept (groups_of s) m (sym c.if-oversize.ensures) c.args.r h))
 
 pub returns-then-r-rules-2 : goal.returns-then-r-rules-2
 returns-then-r-rules-2 g c =

@@ -8,7 +8,7 @@ use Rattle.groups.proofs.state.Groups.add.Goals as goal
 pub hold-requires : goal.hold-requires
 hold-requires g c =
     let s = c.args.self.now in
-    let k = accepted_group (groups_of s) (g.C.Case.meaning s.below) c.args.options.now c.in-ok-check.ensures in (
+    let k = accepted_group (groups_of s) (g.C.Case.meaning s.below) c.args.options.now c.in_ok-check.ensures in (
       omega (arith, k.few, length-groups s),
       (omega (arith, k.short), (omega (arith, k.exists, (g.C.Case.limits s.below).few_options), omega (arith, k.rules, s.paired))),
     )
@@ -19,7 +19,7 @@ returns g c =
     let gs = groups_of s in
     let m = g.C.Case.meaning s.below in
     let xs = c.args.options.now in
-    let ok = c.in-ok-check.ensures in
+    let ok = c.in_ok-check.ensures in
     record {
       answers = ok;
       adds = c.hold.ensures.adds;

@@ -9,30 +9,30 @@ use Rattle.layers.proofs.opened.OpenCase.literal.Goals as goal
 pub returns-then-r-rules : goal.returns-then-r-rules
 returns-then-r-rules g c =
     let m = g.C.Case.meaning c.args.self.now.below in
-    let room = room_told open_room m c.options-options.ensures c.rules-rules.ensures c.if-not-has-room.ensures in
+    let room = room_told open_room m c.options-options.ensures c.rules-rules.ensures c.if-not-has_room.ensures in
     sym (ap (λ x. get_or x c.args.j 255) (rule_out (opened m) c.args.r (omega (arith, open_rules m room, c.rules-rules.ensures, c.options-options.ensures))))
 
 pub returns-then-r-rules-2 : goal.returns-then-r-rules-2
 returns-then-r-rules-2 g c =
     let m = g.C.Case.meaning c.args.self.now.below in
     let r = c.args.r in
-    let room = room_told open_room m c.options-options.ensures c.rules-rules.ensures c.if-not-has-room.ensures in
+    let room = room_told open_room m c.options-options.ensures c.rules-rules.ensures c.if-not-has_room.ensures in
     let h : length (rules_of m) ≤ r = omega (arith, c.rules-rules.ensures) in
     let k : r < length (rules_of m) + options_of m = omega (arith, c.rules-rules.ensures, c.options-options.ensures) in
-    c.not-both-literal.ensures
+    c.not_both_literal.ensures
     ∙ ap (λ b. get_or (not_both (r - b)) c.args.j 255) c.rules-rules.ensures
     ∙ sym (ap (λ x. get_or x c.args.j 255) (rule_not_both r m room h k))
 
 pub returns-then-l-lt128 : goal.returns-then-l-lt128
 returns-then-l-lt128 g c =
     let m = g.C.Case.meaning c.args.self.now.below in
-    let room = room_told open_room m c.options-options.ensures c.rules-rules.ensures c.if-not-has-room.ensures in
+    let room = room_told open_room m c.options-options.ensures c.rules-rules.ensures c.if-not-has_room.ensures in
     let h : c.args.r < length (rules_of m) = omega (arith, c.rules-rules.ensures) in
     ap (λ l. 2 * l) c.literal-l.ensures ∙ sym (literal_marked c.args.r c.args.j m room h (omega (arith, c.literal-l.ensures)))
 
 pub returns-else-l-lt128 : goal.returns-else-l-lt128
 returns-else-l-lt128 g c =
     let m = g.C.Case.meaning c.args.self.now.below in
-    let room = room_told open_room m c.options-options.ensures c.rules-rules.ensures c.if-not-has-room.ensures in
+    let room = room_told open_room m c.options-options.ensures c.rules-rules.ensures c.if-not-has_room.ensures in
     let h : c.args.r < length (rules_of m) = omega (arith, c.rules-rules.ensures) in
     sym (literal_none c.args.r c.args.j m room h (g.C.Case.limits c.args.self.now.below) (omega (arith, c.literal-l.ensures)))

@@ -11,15 +11,15 @@ pub returns-then-r-rules : goal.returns-then-r-rules
 returns-then-r-rules g c =
     let m = g.C.Case.meaning c.args.self.now.below in
     let r = c.args.r in
-    let room = room_told open_room m c.options-options.ensures c.rules-rules.ensures c.if-not-has-room.ensures in
+    let room = room_told open_room m c.options-options.ensures c.rules-rules.ensures c.if-not-has_room.ensures in
     let h : r < length (rules_of m) = omega (arith, c.rules-rules.ensures) in
-    sym (ap length (rule_marked r m room h) ∙ length-map (get_or (rules_of m) r []) mark ∙ sym c.rule-len.ensures)
+    sym (ap length (rule_marked r m room h) ∙ length-map (get_or (rules_of m) r []) mark ∙ sym c.rule_len.ensures)
 
 pub returns-then-r-rules-2 : goal.returns-then-r-rules-2
 returns-then-r-rules-2 g c =
     let m = g.C.Case.meaning c.args.self.now.below in
     let r = c.args.r in
-    let room = room_told open_room m c.options-options.ensures c.rules-rules.ensures c.if-not-has-room.ensures in
+    let room = room_told open_room m c.options-options.ensures c.rules-rules.ensures c.if-not-has_room.ensures in
     let h : length (rules_of m) ≤ r = omega (arith, c.rules-rules.ensures) in
     let k : r < length (rules_of m) + options_of m = omega (arith, c.rules-rules.ensures, c.options-options.ensures) in
     sym (ap length (rule_not_both r m room h k))
@@ -27,5 +27,5 @@ returns-then-r-rules-2 g c =
 pub returns-else-r-rules-2 : goal.returns-else-r-rules-2
 returns-else-r-rules-2 g c =
     let m = g.C.Case.meaning c.args.self.now.below in
-    let room = room_told open_room m c.options-options.ensures c.rules-rules.ensures c.if-not-has-room.ensures in
+    let room = room_told open_room m c.options-options.ensures c.rules-rules.ensures c.if-not-has_room.ensures in
     sym (ap length (rule_out (opened m) c.args.r (omega (arith, open_rules m room, c.rules-rules.ensures, c.options-options.ensures))))

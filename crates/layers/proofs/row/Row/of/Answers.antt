@@ -36,5 +36,5 @@ returns c =
     let e : c.loop-i.i ≡ length xs = omega arith in
     ap (λ k. take k c.loop-i.items) (sym e) ∙ c.loop-i.invariant.1 ∙ take_all c.loop-i.i xs c.loop-i-test.false
 
-pub invariant-of-result : goal.invariant-of-result
-invariant-of-result c = (c.loop-i.invariant.0, (c.requires.0, (c.loop-i.invariant.2, tt)))
+pub invariant_of-result : goal.invariant_of-result
+invariant_of-result c = record { full = c.loop-i.invariant.0; short = c.requires.0; small = c.loop-i.invariant.2 }

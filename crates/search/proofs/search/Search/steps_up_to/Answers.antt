@@ -1,5 +1,5 @@
 use Rattle.std.proofs.Common.{◌≡◌, ℕ, ◌+◌, ◌-◌, Bool, true, false, not, sym, refl, ap, ◌∙◌, subst, arith}
-use Rattle.std.proofs.lemmas.Bool.{not-true, not_false}
+use Rattle.std.proofs.lemmas.Bool.{not-true, not-false}
 use Rattle.charges.specs.Generic.{kind_of}
 use Rattle.charges.specs.Charges.{contents}
 use Rattle.calculus.specs.Steps.{closed, step}
@@ -54,7 +54,7 @@ returns-then-not-step g c =
     let same = c.loop-made.invariant.0 in
     let next = seen K p c.step.new.best c.step.new.tables in
     let shut : closed m here ≡ true =
-    ap (λ x. closed (contents (M x)) (stands K (M x) c.loop-made.self)) (sym same) ∙ not_false (closed (contents (M c.loop-made.self.pile)) (stands K (M c.loop-made.self.pile) c.loop-made.self)) (sym c.if-not-step.ensures.answers) in
+    ap (λ x. closed (contents (M x)) (stands K (M x) c.loop-made.self)) (sym same) ∙ not-false (closed (contents (M c.loop-made.self.pile)) (stands K (M c.loop-made.self.pile) c.loop-made.self)) (sym c.if-not-step.ensures.answers) in
     let stays : next ≡ here =
     subst (λ x. seen K (M x) c.step.new.best c.step.new.tables ≡ step K (contents (M x)) (stands K (M x) c.loop-made.self)) same c.step.ensures.leaves ∙ step_closed K m here shut in
     record {

@@ -12,7 +12,7 @@ returns-then-r-rules g c =
     let s = c.args.self.now in
     let m = g.C.Case.meaning s.below in
     let h : c.args.r < length (rules_of m) = omega (arith, c.rules-rules.ensures) in
-    c.rule-len.ensures ∙ ap length (sym (wish_rule_kept (wishes_of s) m (sym c.if-oversize.ensures) c.args.r h))
+    c.rule_len.ensures ∙ ap length (sym (wish_rule_kept (wishes_of s) m (sym c.if-oversize.ensures) c.args.r h))
 
 pub returns-then-i-self : goal.returns-then-i-self
 returns-then-i-self g c =

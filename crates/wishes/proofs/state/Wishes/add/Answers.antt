@@ -8,7 +8,7 @@ use Rattle.wishes.proofs.state.Wishes.add.Goals as goal
 pub hold-requires : goal.hold-requires
 hold-requires g c =
     let s = c.args.self.now in
-    let k = accepted_wish (wishes_of s) (g.C.Case.meaning s.below) c.args.wish.now c.in-ok-check.ensures in
+    let k = accepted_wish (wishes_of s) (g.C.Case.meaning s.below) c.args.wish.now c.in_ok-check.ensures in
     (omega (arith, k.few, length-wishes s), (k.short, omega (arith, k.exists, (g.C.Case.limits s.below).few_options)))
 
 pub returns : goal.returns
@@ -17,7 +17,7 @@ returns g c =
     let ws = wishes_of s in
     let m = g.C.Case.meaning s.below in
     let xs = c.args.wish.now in
-    let ok = c.in-ok-check.ensures in
+    let ok = c.in_ok-check.ensures in
     record {
       answers = ok;
       adds = c.hold.ensures.adds;
