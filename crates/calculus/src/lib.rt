@@ -1,4 +1,6 @@
 // The calculus of the search: its definition, and what is promised of it. The theorems stand as contracts.
+#![tactic(auto)]
+
 ghost use Rattle.calculus.specs.Piles.{PromisesKept, CallsContinue};
 ghost use Rattle.calculus.specs.Examples.{AllRows};
 ghost use Rattle.charges.specs.Generic.{kind_of};

@@ -1,4 +1,6 @@
 // The case file: read, told as a case, written.
+#![tactic(auto)]
+
 pub mod again;
 pub mod fault;
 pub mod field;

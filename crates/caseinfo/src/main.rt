@@ -1,5 +1,7 @@
 // Takes a case file from standard input, and says what it holds or why it is refused. With the word `tariff` it also says
 // what the tariff over it comes to.
+#![tactic(auto)]
+
 mod report;
 
 use report::inspect;

@@ -1,4 +1,6 @@
 // What a case is: literals, rules and choices, the six questions that any case answers, and the ladder.
+#![tactic(auto)]
+
 pub mod case;
 pub mod choices;
 pub mod ladder;

@@ -1,3 +1,5 @@
+#![tactic(auto)]
+
 use casefile::file::FileCase;
 use cases::case::Case;
 use charges::kinds::Sum;

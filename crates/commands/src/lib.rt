@@ -1,4 +1,6 @@
 // The calls of the adviser's desk: one line of bytes read as a command, or as none.
+#![tactic(auto)]
+
 pub mod command;
 mod literals;
 mod numbers;

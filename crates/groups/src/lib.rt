@@ -1,4 +1,6 @@
 // The group layer: of each group of options no two are on.
+#![tactic(auto)]
+
 pub mod laws;
 pub mod layer;
 mod pairs;

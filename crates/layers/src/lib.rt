@@ -1,5 +1,7 @@
 // Layers: each takes any case below it and is again a case; over an oversize case it is oversize. The tariff and the open
 // layer stand here, with what the group and the wish layer share.
+#![tactic(auto)]
+
 pub mod laws;
 pub mod lists;
 pub mod marks;

@@ -1,4 +1,6 @@
 // A set of literals in one word: a bit for each of the literals below 128, which is more than any case has.
+#![tactic(auto)]
+
 ghost use Rattle.std.specs.Prelude.{◌≡◌, ℕ, ◌<◌, true, false, not, ◌&&◌, ◌||◌, MatchOption, ◌==◌, nat_lt};
 ghost use Rattle.literals.specs.Members.{member, «OnlyOne», Lowest};
 

@@ -1,4 +1,6 @@
 // Piles: cases with layers on them, in any order.
+#![tactic(auto)]
+
 pub mod laws;
 #[cfg(test)]
 mod refusals;

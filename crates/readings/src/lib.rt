@@ -1,4 +1,6 @@
 // Reading down: what a search over a layer says of the case below. The theorems stand as contracts.
+#![tactic(auto)]
+
 ghost use Rattle.readings.specs.Readings.{OpenReadsDown, WishReadsDown};
 ghost use Rattle.readings.specs.Examples.{AllRows};
 ghost use Rattle.charges.specs.Generic.{kind_of};

@@ -1,4 +1,6 @@
 // The steps of a search over any pile, in any kind of charge.
+#![tactic(auto)]
+
 mod backward;
 mod changes;
 mod forward;

@@ -1,4 +1,6 @@
 // What the programs share: a case file taken from an input into a buffer of fixed size.
+#![tactic(auto)]
+
 ghost use Rattle.std.specs.Prelude.{◌≤◌, length, IfOk};
 
 use std::io;

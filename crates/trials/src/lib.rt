@@ -1,4 +1,6 @@
 // Examples that are run: byte strings judged, cases written, choices checked.
+#![tactic(auto)]
+
 #[cfg(test)]
 mod choices;
 #[cfg(test)]

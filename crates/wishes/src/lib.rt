@@ -1,4 +1,6 @@
 // The wish layer: wishes that a choice may break at a price.
+#![tactic(auto)]
+
 mod held;
 pub mod layer;
 mod reading;
