@@ -2,7 +2,7 @@
 #![tactic(auto)]
 
 ghost use Rattle.std.specs.Prelude.{◌≡◌, ℕ, ◌<◌, true, false, not, ◌&&◌, ◌||◌, MatchOption, ◌==◌, nat_lt};
-ghost use Rattle.literals.specs.Members.{member, «OnlyOne», Lowest};
+ghost use Rattle.literals.specs.Members.{member, OnlyOne, Lowest};
 
 #[derive(Clone, Copy)]
 pub struct LiteralSet {

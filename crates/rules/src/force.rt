@@ -1,7 +1,7 @@
 // The rules in force, place by place and as sets.
 ghost use Rattle.std.specs.Prelude.{◌≡◌, ℕ, ◌<◌, ◌≤◌, [], length, slice_index_or};
 ghost use Rattle.cases.specs.Literals.{members};
-ghost use Rattle.calculus.specs.States.{clause as «clause-at»};
+ghost use Rattle.calculus.specs.States.{clause as clause_at};
 ghost use Rattle.literals.specs.Members.{member};
 ghost use Rattle.rules.specs.Force.{rules_in, clauses_in};
 
@@ -60,7 +60,7 @@ pub fn clause<P: Case>(
     learned: &Learned,
     place: usize,
 ) -> LiteralSet
-    ensures { (x : ℕ) → member result x ≡ clause-at (clauses_in (P.Case.meaning pile.now) conditions.now learned.now) place x }
+    ensures { (x : ℕ) → member result x ≡ clause_at (clauses_in (P.Case.meaning pile.now) conditions.now learned.now) place x }
 {
     let count = in_force(pile, conditions);
     if place < count {

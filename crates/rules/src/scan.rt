@@ -1,7 +1,7 @@
 // Looking for the first rule that has no literal in a set, and for the first that has just one.
 ghost use Rattle.std.specs.Prelude.{◌≡◌, ℕ, ◌<◌, ◌≤◌, Bool, not, ◌&&◌, [], length, get_or, ◌==◌, slice_index_or};
 ghost use Rattle.cases.specs.Literals.{members};
-ghost use Rattle.calculus.specs.Scans.{place as «place_of»};
+ghost use Rattle.calculus.specs.Scans.{place as place_of};
 ghost use Rattle.literals.specs.Members.{member};
 ghost use Rattle.tables.specs.Rows.{nothing_noted};
 ghost use Rattle.tables.specs.Learned.{rows_of};

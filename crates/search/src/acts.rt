@@ -4,7 +4,7 @@ ghost use Rattle.std.proofs.Math.Option.{none};
 ghost use Rattle.charges.specs.Generic.{kind_of};
 ghost use Rattle.charges.specs.Charges.{contents};
 ghost use Rattle.calculus.specs.Checks.{add_check};
-ghost use Rattle.calculus.specs.Calls.{add as «add-call», withdraw as «withdraw-call», run as «run_call», read as «read-call», tally as «tally-call», breaks as «breaks-rule», added, buffer_after};
+ghost use Rattle.calculus.specs.Calls.{add as add_call, withdraw as withdraw_call, run as run_call, read as read_call, tally as tally_call, breaks as breaks_rule, added, buffer_after};
 ghost use Rattle.calculus.specs.Piles.{call_on, answer_on};
 ghost use Rattle.tables.specs.Conditions.{conditions_of};
 ghost use Rattle.steps.specs.States.{NotedRight};
@@ -36,7 +36,7 @@ impl<P: Case, K: Charge> Search<P, K> {
 
     // If the best breaks the rule, the best and all learned rules go.
     fn forget_broken(&mut self, literals: &[u8])
-        ensures leaves { stands (kind_of K.Charge) (P.Case.meaning self.old.pile) self.new ≡ forgetting (breaks-rule (stands (kind_of K.Charge) (P.Case.meaning self.old.pile) self.old).best literals.now) (stands (kind_of K.Charge) (P.Case.meaning self.old.pile) self.old) }
+        ensures leaves { stands (kind_of K.Charge) (P.Case.meaning self.old.pile) self.new ≡ forgetting (breaks_rule (stands (kind_of K.Charge) (P.Case.meaning self.old.pile) self.old).best literals.now) (stands (kind_of K.Charge) (P.Case.meaning self.old.pile) self.old) }
         ensures holds { self.new.tables.conditions ≡ self.old.tables.conditions }
         ensures pile { self.new.pile ≡ self.old.pile }
     {
@@ -49,7 +49,7 @@ impl<P: Case, K: Charge> Search<P, K> {
     // A condition that has passed the checks is held, and the search begins again.
     fn take_in(&mut self, literals: &[u8])
         requires { add_check (contents (P.Case.meaning self.old.pile)) (conditions_of self.old.tables.conditions) literals.now ≡ none }
-        ensures leaves { stands (kind_of K.Charge) (P.Case.meaning self.old.pile) self.new ≡ added (stands (kind_of K.Charge) (P.Case.meaning self.old.pile) self.old) literals.now (breaks-rule (stands (kind_of K.Charge) (P.Case.meaning self.old.pile) self.old).best literals.now) }
+        ensures leaves { stands (kind_of K.Charge) (P.Case.meaning self.old.pile) self.new ≡ added (stands (kind_of K.Charge) (P.Case.meaning self.old.pile) self.old) literals.now (breaks_rule (stands (kind_of K.Charge) (P.Case.meaning self.old.pile) self.old).best literals.now) }
         ensures notes { NotedRight (P.Case.meaning self.old.pile) self.new.tables }
         ensures pile { self.new.pile ≡ self.old.pile }
     {
@@ -59,8 +59,8 @@ impl<P: Case, K: Charge> Search<P, K> {
     }
 
     pub(crate) fn add_on(&mut self, literals: &[u8]) -> Result<(), Refusal>
-        ensures answers { result ≡ done (answer_on (kind_of K.Charge) (P.Case.meaning self.old.pile) (stands (kind_of K.Charge) (P.Case.meaning self.old.pile) self.old) (add-call literals.now)) }
-        ensures leaves { stands (kind_of K.Charge) (P.Case.meaning self.old.pile) self.new ≡ call_on (kind_of K.Charge) (P.Case.meaning self.old.pile) (stands (kind_of K.Charge) (P.Case.meaning self.old.pile) self.old) (add-call literals.now) }
+        ensures answers { result ≡ done (answer_on (kind_of K.Charge) (P.Case.meaning self.old.pile) (stands (kind_of K.Charge) (P.Case.meaning self.old.pile) self.old) (add_call literals.now)) }
+        ensures leaves { stands (kind_of K.Charge) (P.Case.meaning self.old.pile) self.new ≡ call_on (kind_of K.Charge) (P.Case.meaning self.old.pile) (stands (kind_of K.Charge) (P.Case.meaning self.old.pile) self.old) (add_call literals.now) }
         ensures notes { NotedRight (P.Case.meaning self.old.pile) self.old.tables → NotedRight (P.Case.meaning self.old.pile) self.new.tables }
         ensures pile { self.new.pile ≡ self.old.pile }
     {
@@ -70,8 +70,8 @@ impl<P: Case, K: Charge> Search<P, K> {
     }
 
     pub(crate) fn withdraw_on(&mut self) -> Result<(), Refusal>
-        ensures answers { result ≡ done (answer_on (kind_of K.Charge) (P.Case.meaning self.old.pile) (stands (kind_of K.Charge) (P.Case.meaning self.old.pile) self.old) withdraw-call) }
-        ensures leaves { stands (kind_of K.Charge) (P.Case.meaning self.old.pile) self.new ≡ call_on (kind_of K.Charge) (P.Case.meaning self.old.pile) (stands (kind_of K.Charge) (P.Case.meaning self.old.pile) self.old) withdraw-call }
+        ensures answers { result ≡ done (answer_on (kind_of K.Charge) (P.Case.meaning self.old.pile) (stands (kind_of K.Charge) (P.Case.meaning self.old.pile) self.old) withdraw_call) }
+        ensures leaves { stands (kind_of K.Charge) (P.Case.meaning self.old.pile) self.new ≡ call_on (kind_of K.Charge) (P.Case.meaning self.old.pile) (stands (kind_of K.Charge) (P.Case.meaning self.old.pile) self.old) withdraw_call }
         ensures notes { NotedRight (P.Case.meaning self.old.pile) self.old.tables → NotedRight (P.Case.meaning self.old.pile) self.new.tables }
         ensures pile { self.new.pile ≡ self.old.pile }
     {
@@ -83,8 +83,8 @@ impl<P: Case, K: Charge> Search<P, K> {
     }
 
     pub(crate) fn read_on(&self, out: &mut [u8]) -> Result<K, Refusal>
-        ensures answers { result ≡ read_reply (answer_on (kind_of K.Charge) (P.Case.meaning self.now.pile) (stands (kind_of K.Charge) (P.Case.meaning self.now.pile) self.now) (read-call (length out.old))) }
-        ensures writes { out.new ≡ buffer_after (answer_on (kind_of K.Charge) (P.Case.meaning self.now.pile) (stands (kind_of K.Charge) (P.Case.meaning self.now.pile) self.now) (read-call (length out.old))) out.old }
+        ensures answers { result ≡ read_reply (answer_on (kind_of K.Charge) (P.Case.meaning self.now.pile) (stands (kind_of K.Charge) (P.Case.meaning self.now.pile) self.now) (read_call (length out.old))) }
+        ensures writes { out.new ≡ buffer_after (answer_on (kind_of K.Charge) (P.Case.meaning self.now.pile) (stands (kind_of K.Charge) (P.Case.meaning self.now.pile) self.now) (read_call (length out.old))) out.old }
     {
         if self.pile.oversize() {
             return Err(Refusal::Oversize);
@@ -102,7 +102,7 @@ impl<P: Case, K: Charge> Search<P, K> {
     }
 
     pub(crate) fn tally_on(&self) -> Result<(u64, u64), Refusal>
-        ensures { result ≡ tally_reply (answer_on (kind_of K.Charge) (P.Case.meaning self.now.pile) (stands (kind_of K.Charge) (P.Case.meaning self.now.pile) self.now) tally-call) }
+        ensures { result ≡ tally_reply (answer_on (kind_of K.Charge) (P.Case.meaning self.now.pile) (stands (kind_of K.Charge) (P.Case.meaning self.now.pile) self.now) tally_call) }
     {
         if self.pile.oversize() {
             return Err(Refusal::Oversize);

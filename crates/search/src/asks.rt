@@ -2,8 +2,8 @@
 ghost use Rattle.std.specs.Prelude.{◌≡◌, ◌≤◌};
 ghost use Rattle.charges.specs.Generic.{kind_of};
 ghost use Rattle.charges.specs.Charges.{contents};
-ghost use Rattle.calculus.specs.Runs.{verdict as «verdict-by»};
-ghost use Rattle.calculus.specs.Calls.{breaks as «breaks-rule», add as «add-call», withdraw as «withdraw-call»};
+ghost use Rattle.calculus.specs.Runs.{verdict as verdict_by};
+ghost use Rattle.calculus.specs.Calls.{breaks as breaks_rule, add as add_call, withdraw as withdraw_call};
 ghost use Rattle.calculus.specs.Piles.{answer_on};
 ghost use Rattle.literals.specs.Members.{member};
 ghost use Rattle.steps.specs.States.{best_seen};
@@ -22,7 +22,7 @@ use tables::conditions::{LONGEST_CONDITION, MOST_CONDITIONS};
 
 impl<P: Case, K: Charge> Search<P, K> {
     pub(crate) fn verdict(&self) -> Verdict
-        ensures { result ≡ verdict_of (verdict-by (contents (P.Case.meaning self.now.pile)) (stands (kind_of K.Charge) (P.Case.meaning self.now.pile) self.now)) }
+        ensures { result ≡ verdict_of (verdict_by (contents (P.Case.meaning self.now.pile)) (stands (kind_of K.Charge) (P.Case.meaning self.now.pile) self.now)) }
     {
         if !is_closed(&self.pile, &self.tables) {
             return Verdict::Open;
@@ -35,7 +35,7 @@ impl<P: Case, K: Charge> Search<P, K> {
 
     // Whether there is a best and it sets none of the literals.
     pub(crate) fn breaks(&self, literals: &[u8]) -> bool
-        ensures { result ≡ breaks-rule (best_seen (kind_of K.Charge) (contents (P.Case.meaning self.now.pile)).options self.now.best (member self.now.tables.choice)) literals.now }
+        ensures { result ≡ breaks_rule (best_seen (kind_of K.Charge) (contents (P.Case.meaning self.now.pile)).options self.now.best (member self.now.tables.choice)) literals.now }
     {
         match self.best {
             None => false,
@@ -49,7 +49,7 @@ impl<P: Case, K: Charge> Search<P, K> {
 
     // What is wrong with adding a condition, the first thing in the order of checks.
     pub(crate) fn check_add(&self, literals: &[u8]) -> Result<(), Refusal>
-        ensures { result ≡ done (answer_on (kind_of K.Charge) (P.Case.meaning self.now.pile) (stands (kind_of K.Charge) (P.Case.meaning self.now.pile) self.now) (add-call literals.now)) }
+        ensures { result ≡ done (answer_on (kind_of K.Charge) (P.Case.meaning self.now.pile) (stands (kind_of K.Charge) (P.Case.meaning self.now.pile) self.now) (add_call literals.now)) }
     {
         if self.pile.oversize() {
             Err(Refusal::Oversize)
@@ -66,7 +66,7 @@ impl<P: Case, K: Charge> Search<P, K> {
 
     // The same of withdrawing one.
     pub(crate) fn check_withdraw(&self) -> Result<(), Refusal>
-        ensures { result ≡ done (answer_on (kind_of K.Charge) (P.Case.meaning self.now.pile) (stands (kind_of K.Charge) (P.Case.meaning self.now.pile) self.now) withdraw-call) }
+        ensures { result ≡ done (answer_on (kind_of K.Charge) (P.Case.meaning self.now.pile) (stands (kind_of K.Charge) (P.Case.meaning self.now.pile) self.now) withdraw_call) }
     {
         if self.pile.oversize() {
             Err(Refusal::Oversize)

@@ -2,7 +2,7 @@
 // to the search, what is promised after this one.
 ghost use Rattle.std.specs.Prelude.{◌≡◌, [], length};
 ghost use Rattle.charges.specs.Generic.{kind_of};
-ghost use Rattle.calculus.specs.Calls.{add as «add-call», withdraw as «withdraw-call», run as «run_call», read as «read-call», tally as «tally-call», buffer_after};
+ghost use Rattle.calculus.specs.Calls.{add as add_call, withdraw as withdraw_call, run as run_call, read as read_call, tally as tally_call, buffer_after};
 ghost use Rattle.calculus.specs.Piles.{answer_on};
 ghost use Rattle.search.specs.Stands.{stands};
 ghost use Rattle.search.specs.Replies.{done, run_reply, read_reply, tally_reply};
@@ -39,8 +39,8 @@ impl<P: Case, K: Charge> Search<P, K> {
 
     // Appends a condition: a rule that the choice has to keep as well.
     pub fn add(&mut self, literals: &[u8]) -> Result<(), Refusal>
-        ensures answers { result ≡ done (answer_on (kind_of K.Charge) (P.Case.meaning self.old.pile) (stands (kind_of K.Charge) (P.Case.meaning self.old.pile) self.old) (add-call literals.now)) }
-        ensures history { MadeBy (kind_of K.Charge) (P.Case.meaning self.old.pile) self.old self.new (add-call literals.now) }
+        ensures answers { result ≡ done (answer_on (kind_of K.Charge) (P.Case.meaning self.old.pile) (stands (kind_of K.Charge) (P.Case.meaning self.old.pile) self.old) (add_call literals.now)) }
+        ensures history { MadeBy (kind_of K.Charge) (P.Case.meaning self.old.pile) self.old self.new (add_call literals.now) }
         ensures pile { self.new.pile ≡ self.old.pile }
     {
         self.add_on(literals)
@@ -48,8 +48,8 @@ impl<P: Case, K: Charge> Search<P, K> {
 
     // Removes the newest condition.
     pub fn withdraw(&mut self) -> Result<(), Refusal>
-        ensures answers { result ≡ done (answer_on (kind_of K.Charge) (P.Case.meaning self.old.pile) (stands (kind_of K.Charge) (P.Case.meaning self.old.pile) self.old) withdraw-call) }
-        ensures history { MadeBy (kind_of K.Charge) (P.Case.meaning self.old.pile) self.old self.new withdraw-call }
+        ensures answers { result ≡ done (answer_on (kind_of K.Charge) (P.Case.meaning self.old.pile) (stands (kind_of K.Charge) (P.Case.meaning self.old.pile) self.old) withdraw_call) }
+        ensures history { MadeBy (kind_of K.Charge) (P.Case.meaning self.old.pile) self.old self.new withdraw_call }
         ensures pile { self.new.pile ≡ self.old.pile }
     {
         self.withdraw_on()
@@ -58,17 +58,17 @@ impl<P: Case, K: Charge> Search<P, K> {
     // Writes 1 or 0 for each option of the best into the first bytes of the buffer, and answers its charge. Bytes after
     // them stay.
     pub fn read(&self, out: &mut [u8]) -> Result<K, Refusal>
-        ensures answers { result ≡ read_reply (answer_on (kind_of K.Charge) (P.Case.meaning self.now.pile) (stands (kind_of K.Charge) (P.Case.meaning self.now.pile) self.now) (read-call (length out.old))) }
-        ensures writes { out.new ≡ buffer_after (answer_on (kind_of K.Charge) (P.Case.meaning self.now.pile) (stands (kind_of K.Charge) (P.Case.meaning self.now.pile) self.now) (read-call (length out.old))) out.old }
-        ensures history { MadeBy (kind_of K.Charge) (P.Case.meaning self.now.pile) self.now self.now (read-call (length out.old)) }
+        ensures answers { result ≡ read_reply (answer_on (kind_of K.Charge) (P.Case.meaning self.now.pile) (stands (kind_of K.Charge) (P.Case.meaning self.now.pile) self.now) (read_call (length out.old))) }
+        ensures writes { out.new ≡ buffer_after (answer_on (kind_of K.Charge) (P.Case.meaning self.now.pile) (stands (kind_of K.Charge) (P.Case.meaning self.now.pile) self.now) (read_call (length out.old))) out.old }
+        ensures history { MadeBy (kind_of K.Charge) (P.Case.meaning self.now.pile) self.now self.now (read_call (length out.old)) }
     {
         self.read_on(out)
     }
 
     // The conflicts and the steps since the counts were last zeroed.
     pub fn tally(&self) -> Result<(u64, u64), Refusal>
-        ensures answers { result ≡ tally_reply (answer_on (kind_of K.Charge) (P.Case.meaning self.now.pile) (stands (kind_of K.Charge) (P.Case.meaning self.now.pile) self.now) tally-call) }
-        ensures history { MadeBy (kind_of K.Charge) (P.Case.meaning self.now.pile) self.now self.now tally-call }
+        ensures answers { result ≡ tally_reply (answer_on (kind_of K.Charge) (P.Case.meaning self.now.pile) (stands (kind_of K.Charge) (P.Case.meaning self.now.pile) self.now) tally_call) }
+        ensures history { MadeBy (kind_of K.Charge) (P.Case.meaning self.now.pile) self.now self.now tally_call }
     {
         self.tally_on()
     }

@@ -6,8 +6,8 @@ ghost use Rattle.charges.specs.Charges.{contents};
 ghost use Rattle.calculus.specs.Scans.{greatest};
 ghost use Rattle.calculus.specs.Trails.{level_of};
 ghost use Rattle.calculus.specs.Changes.{resolved};
-ghost use Rattle.calculus.specs.States.{clause as «clause-at»};
-ghost use Rattle.calculus.specs.Steps.{others, can_backtrack, back, backward as «backward-by»};
+ghost use Rattle.calculus.specs.States.{clause as clause_at};
+ghost use Rattle.calculus.specs.Steps.{others, can_backtrack, back, backward as backward_by};
 ghost use Rattle.literals.specs.Members.{member};
 ghost use Rattle.trails.specs.Trails.{listed};
 ghost use Rattle.rules.specs.Force.{rules_in, clauses_in};
@@ -50,7 +50,7 @@ fn resolvent<P: Case>(
     literal: u8,
     place: usize,
 ) -> LiteralSet
-    ensures { (x : ℕ) → member result x ≡ resolved (member set.now) literal (clause-at (clauses_in (P.Case.meaning pile.now) conditions.now learned.now) place) x }
+    ensures { (x : ℕ) → member result x ≡ resolved (member set.now) literal (clause_at (clauses_in (P.Case.meaning pile.now) conditions.now learned.now) place) x }
 {
     let mut rest = *set;
     rest.remove(opposite(literal));
@@ -98,7 +98,7 @@ fn level_below<P: Case>(pile: &P, trail: &Trail, set: &LiteralSet, literal: u8) 
 
 // Backtrack, if the set has just one literal of the trail's level, and that is not 0. Else Skip or Resolve.
 pub fn backward<P: Case, K: Charge>(pile: &P, tables: &mut Tables, set: LiteralSet)
-    ensures leaves { (b : Option K) → seen (kind_of K.Charge) (P.Case.meaning pile.now) b tables.new ≡ backward-by (contents (P.Case.meaning pile.now)) (seen (kind_of K.Charge) (P.Case.meaning pile.now) b tables.old) (member set) (can_backtrack (contents (P.Case.meaning pile.now)).options (listed tables.old.trail) (member set)) }
+    ensures leaves { (b : Option K) → seen (kind_of K.Charge) (P.Case.meaning pile.now) b tables.new ≡ backward_by (contents (P.Case.meaning pile.now)) (seen (kind_of K.Charge) (P.Case.meaning pile.now) b tables.old) (member set) (can_backtrack (contents (P.Case.meaning pile.now)).options (listed tables.old.trail) (member set)) }
     ensures notes { Right (length (rules_in (P.Case.meaning pile.now) tables.old.conditions)) tables.old → Right (length (rules_in (P.Case.meaning pile.now) tables.old.conditions)) tables.new }
     ensures holds { tables.new.conditions ≡ tables.old.conditions }
 {

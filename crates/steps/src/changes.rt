@@ -1,7 +1,7 @@
 // What the rules of the calculus do to the tables. Each keeps the notes of the rows right.
 ghost use Rattle.std.specs.Prelude.{◌≡◌, ℕ, ◌<◌, ◌≤◌, true, ◌∷◌, if◌then◌else◌};
 ghost use Rattle.calculus.specs.States.{up};
-ghost use Rattle.calculus.specs.Trails.{cut as «cut-trail», level};
+ghost use Rattle.calculus.specs.Trails.{cut as cut_trail, level};
 ghost use Rattle.literals.specs.Members.{member};
 ghost use Rattle.trails.specs.Entries.{entry_of, reason_of, tail_of};
 ghost use Rattle.trails.specs.Trails.{listed, has_place};
@@ -94,7 +94,7 @@ pub fn pop(tables: &mut Tables, base: usize, top: Entry, set: LiteralSet)
 
 // Levels above i leave the trail, a full table drops a row, the set is learned, and its literal joins with that reason.
 pub fn backtrack(tables: &mut Tables, base: usize, set: LiteralSet, literal: u8, i: u8)
-    requires { (base ≤ 544) × ((i < level (listed tables.old.trail)) × (has_place (cut-trail i (listed tables.old.trail)) literal ≡ true)) }
+    requires { (base ≤ 544) × ((i < level (listed tables.old.trail)) × (has_place (cut_trail i (listed tables.old.trail)) literal ≡ true)) }
     ensures leaves { shape tables.new ≡ backing base (member set) literal i (shape tables.old) }
     ensures notes { Right base tables.new }
     ensures holds { tables.new.conditions ≡ tables.old.conditions }

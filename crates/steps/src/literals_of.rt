@@ -3,7 +3,7 @@ ghost use Rattle.std.specs.Prelude.{◌≡◌, ℕ, ◌*◌, ◌<◌, ◌≤◌,
 ghost use Rattle.charges.specs.Generic.{kind_of};
 ghost use Rattle.charges.specs.Charges.{contents, price_of, charge};
 ghost use Rattle.calculus.specs.Trails.{on};
-ghost use Rattle.calculus.specs.Changes.{decision as «decision-of»};
+ghost use Rattle.calculus.specs.Changes.{decision as decision_of};
 ghost use Rattle.literals.specs.Members.{member};
 ghost use Rattle.trails.specs.Trails.{listed};
 ghost use Rattle.steps.specs.Shapes.{Live};
@@ -46,7 +46,7 @@ fn price<P: Case, K: Charge>(pile: &P, l: u8) -> K
 // How option v is decided: on if the price of on is strictly below that of off, else off.
 pub fn decision<P: Case, K: Charge>(pile: &P, v: u8) -> u8
     requires { v < 64 }
-    ensures { result ≡ decision-of (kind_of K.Charge) (contents (P.Case.meaning pile.now)) v }
+    ensures { result ≡ decision_of (kind_of K.Charge) (contents (P.Case.meaning pile.now)) v }
 {
     let on: K = price(pile, 2 * v);
     let off: K = price(pile, 2 * v + 1);

@@ -2,7 +2,7 @@
 ghost use Rattle.std.specs.Prelude.{◌≡◌, not};
 ghost use Rattle.charges.specs.Generic.{kind_of};
 ghost use Rattle.charges.specs.Charges.{contents};
-ghost use Rattle.calculus.specs.Steps.{empty_set, closed as «closed-by», step as «step_by»};
+ghost use Rattle.calculus.specs.Steps.{empty_set, closed as closed_by, step as step_by};
 ghost use Rattle.steps.specs.Shapes.{conflict_of};
 ghost use Rattle.steps.specs.States.{seen, NotedRight};
 
@@ -25,7 +25,7 @@ pub fn is_closed<P: Case>(pile: &P, tables: &Tables) -> bool
 
 // One step of the calculus. Answers whether there was one to make: a closed search stays as it is.
 pub fn step<P: Case, K: Charge>(pile: &P, best: &mut Option<K>, tables: &mut Tables) -> bool
-    ensures answers { result ≡ not (closed-by (contents (P.Case.meaning pile.now)) (seen (kind_of K.Charge) (P.Case.meaning pile.now) best.old tables.old)) }
+    ensures answers { result ≡ not (closed_by (contents (P.Case.meaning pile.now)) (seen (kind_of K.Charge) (P.Case.meaning pile.now) best.old tables.old)) }
     ensures leaves { seen (kind_of K.Charge) (P.Case.meaning pile.now) best.new tables.new ≡ step_by (kind_of K.Charge) (contents (P.Case.meaning pile.now)) (seen (kind_of K.Charge) (P.Case.meaning pile.now) best.old tables.old) }
     ensures notes { NotedRight (P.Case.meaning pile.now) tables.old → NotedRight (P.Case.meaning pile.now) tables.new }
 {

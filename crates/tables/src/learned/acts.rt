@@ -1,6 +1,6 @@
 // What is done to the learned table.
 ghost use Rattle.std.specs.Prelude.{◌≡◌, ℕ, ◌+◌, ◌<◌, ◌≤◌, false, [], ◌∷◌, ◌++◌, length, get_or, if◌then◌else◌, nat_lt, slice_index_or};
-ghost use Rattle.calculus.specs.Scans.{remove as «remove-at»};
+ghost use Rattle.calculus.specs.Scans.{remove as remove_at};
 ghost use Rattle.tables.specs.Rows.{noted, marked, noting, no_row};
 ghost use Rattle.tables.specs.Learned.{rows_of};
 
@@ -56,7 +56,7 @@ impl Learned {
 
     // Row p goes, and the later ones move down. Where there is no such row nothing changes.
     pub fn remove(&mut self, p: usize)
-        ensures { rows_of self.new ≡ remove-at p (rows_of self.old) }
+        ensures { rows_of self.new ≡ remove_at p (rows_of self.old) }
     {
         if p >= self.len {
             return;

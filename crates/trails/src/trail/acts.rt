@@ -1,6 +1,6 @@
 // What is done to a trail.
 ghost use Rattle.std.specs.Prelude.{◌≡◌, ℕ, ◌≤◌, [], length, if◌then◌else◌};
-ghost use Rattle.calculus.specs.Trails.{cut as «cut-trail»};
+ghost use Rattle.calculus.specs.Trails.{cut as cut_trail};
 ghost use Rattle.calculus.specs.Learned.{renamed};
 ghost use Rattle.trails.specs.Entries.{joined, tail_of, trail_of};
 ghost use Rattle.trails.specs.Trails.{listed, has_place};
@@ -82,7 +82,7 @@ impl Trail {
 
     // The levels above this one go.
     pub fn cut(&mut self, level: u8)
-        ensures { listed self.new ≡ cut-trail level (listed self.old) }
+        ensures { listed self.new ≡ cut_trail level (listed self.old) }
     {
         while self.height > 0 {
             if self.at(self.height - 1).level <= level {

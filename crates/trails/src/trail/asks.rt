@@ -2,7 +2,7 @@
 ghost use Rattle.std.specs.Prelude.{◌≡◌, ℕ, ◌<◌, ◌≤◌, false, ◌&&◌, ◌++◌, length, drop, ◌==◌, slice_index_or};
 ghost use Rattle.cases.specs.Literals.{complement};
 ghost use Rattle.calculus.specs.Scans.{greatest};
-ghost use Rattle.calculus.specs.Trails.{on, level as «level-now», level_of, Levelled};
+ghost use Rattle.calculus.specs.Trails.{on, level as level_now, level_of, Levelled};
 ghost use Rattle.calculus.specs.Learned.{is_reason};
 ghost use Rattle.literals.specs.Members.{member};
 ghost use Rattle.trails.specs.Entries.{no_entry, literals_in, Top};
@@ -34,7 +34,7 @@ impl Trail {
 
     // The level of the trail: how many literals were decided. The levels of its entries are right.
     pub fn level(&self) -> u8
-        ensures answers { result ≡ level-now (listed self.now) }
+        ensures answers { result ≡ level_now (listed self.now) }
         ensures right { Levelled (listed self.now) }
         ensures within { result ≤ 56 }
     {
@@ -60,7 +60,7 @@ impl Trail {
 
     // The literals whose complements were set at the trail's own level.
     pub fn top_complements(&self) -> LiteralSet
-        ensures { (x : ℕ) → member result x ≡ (on (listed self.now) (complement x) && level_of (listed self.now) (complement x) == level-now (listed self.now)) }
+        ensures { (x : ℕ) → member result x ≡ (on (listed self.now) (complement x) && level_of (listed self.now) (complement x) == level_now (listed self.now)) }
     {
         let level = self.level();
         let mut set = LiteralSet::empty();

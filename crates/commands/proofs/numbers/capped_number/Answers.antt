@@ -10,7 +10,7 @@ use Rattle.commands.proofs.numbers.capped_number.Goals.{then-b-lt48-via-then-b-l
 
 pub loop-b-init : goal.loop-b-init
 loop-b-init c =
-    let h : 0 < length c.args.word.now = omega (arith, eqb-false (length c.args.word.now) 0 (sym c.if-is-empty.ensures)) in
+    let h : 0 < length c.args.word.now = omega (arith, eqb-false (length c.args.word.now) 0 (sym c.if-is_empty.ensures)) in
     (omega arith, ap (option_map capped) (number_full c.args.word.now h))
 
 pub loop-b-preserved : goal.loop-b-preserved

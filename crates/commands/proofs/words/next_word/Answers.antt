@@ -17,6 +17,6 @@ split xs part front back n m en ep em ef eb =
 pub returns : goal.returns
 returns c =
     record {
-      splits = split c.args.line.now _ _ _ c.spaces.result c.word-len.result c.spaces.ensures.value (take_rest c.args.line.now c.spaces.result) c.word-len.ensures.value c.split-at.ensures.front c.split-at.ensures.back;
-      shorter = omega (arith, c.split-at.ensures.front-len, c.split-at.ensures.back_len, ap length (take_rest c.args.line.now c.spaces.result), length-drop c.spaces.result c.args.line.now);
+      splits = split c.args.line.now _ _ _ c.spaces.result c.word_len.result c.spaces.ensures.value (take_rest c.args.line.now c.spaces.result) c.word_len.ensures.value c.split_at.ensures.front c.split_at.ensures.back;
+      shorter = omega (arith, c.split_at.ensures.front_len, c.split_at.ensures.back_len, ap length (take_rest c.args.line.now c.spaces.result), length-drop c.spaces.result c.args.line.now);
     }

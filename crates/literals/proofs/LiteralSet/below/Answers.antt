@@ -14,8 +14,8 @@ upper : (k a b : ℕ) → b ≤ a → ltb k b ≡ (ltb k a && ltb k b)
 upper k a b h =
     ⊎_elim (λ (l : k < a). rw (lt-ltb k a l)) (λ (l : a ≤ k). rw (le-ltb k a l) (le-ltb k b (omega arith))) (cases_lt k a)
 
-pub overflow-sub-result : goal.overflow-sub-result
-overflow-sub-result c = omega (arith, one_shl c.args.end 128 c.if-end-lt-SPAN.true, pow_pos c.args.end)
+pub overflow_sub-result : goal.overflow_sub-result
+overflow_sub-result c = omega (arith, one_shl c.args.end 128 c.if-end-lt-SPAN.true, pow_pos c.args.end)
 
 pub returns-then-end-lt-SPAN : goal.returns-then-end-lt-SPAN
 unfolding member

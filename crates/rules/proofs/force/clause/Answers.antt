@@ -8,11 +8,11 @@ use Rattle.rules.proofs.force.clause.Goals as goal
 pub returns-then-place-count : goal.returns-then-place-count
 returns-then-place-count g c x =
     let p = g.P.Case.meaning c.args.pile.now in
-    c.rule-set.ensures x
-    ∙ ap (λ (C : Literals). C x) (sym (clause_rule p c.args.conditions.now c.args.learned.now c.args.place (omega (arith, c.in-force-count.ensures.0, c.if-place-count.true))))
+    c.rule_set.ensures x
+    ∙ ap (λ (C : Literals). C x) (sym (clause_rule p c.args.conditions.now c.args.learned.now c.args.place (omega (arith, c.in_force-count.ensures.0, c.if-place-count.true))))
 
 pub returns-else-place-count : goal.returns-else-place-count
 returns-else-place-count g c x =
     let p = g.P.Case.meaning c.args.pile.now in
-    c.row.ensures x ∙ ap (λ (k : ℕ). (get_or (rows_of c.args.learned.now) (c.args.place - k) nothing_noted).literals x) c.in-force-count.ensures.0
-    ∙ ap (λ (C : Literals). C x) (sym (clause_row p c.args.conditions.now c.args.learned.now c.args.place (omega (arith, c.in-force-count.ensures.0, c.if-place-count.false))))
+    c.row.ensures x ∙ ap (λ (k : ℕ). (get_or (rows_of c.args.learned.now) (c.args.place - k) nothing_noted).literals x) c.in_force-count.ensures.0
+    ∙ ap (λ (C : Literals). C x) (sym (clause_row p c.args.conditions.now c.args.learned.now c.args.place (omega (arith, c.in_force-count.ensures.0, c.if-place-count.false))))

@@ -21,7 +21,7 @@ returns-in-Some g c =
     let ls = c.args.learned.now in
     let S = member c.args.set.now in
     let w = c.in-Some.ensures in
-    let e = c.in-force-count.ensures in
+    let e = c.in_force-count.ensures in
     let h : c.loop-r.r < length (rules_in p cs) = omega (arith, e.0) in (
       in_rules p cs ls (forces S (member c.args.settled.now)) c.loop-r.r h c.loop-r.invariant w.0,
       w.1 ∙ ap (λ (C : Literals). first span (within S C)) (sym (clause_rule p cs ls c.loop-r.r h)),
@@ -29,26 +29,26 @@ returns-in-Some g c =
       omega (arith, e.1),
     )
 
-pub returns-in-Some-forced-by-row : goal.returns-in-Some-forced-by-row
-returns-in-Some-forced-by-row g c =
+pub returns-in-Some-forced_by_row : goal.returns-in-Some-forced_by_row
+returns-in-Some-forced_by_row g c =
     let p = g.P.Case.meaning c.args.pile.now in
     let cs = c.args.conditions.now in
     let ls = c.args.learned.now in
     let S = member c.args.set.now in
-    let w = c.in-Some-forced-by-row.ensures in
-    let e = c.in-force-count.ensures in
+    let w = c.in-Some-forced_by_row.ensures in
+    let e = c.in_force-count.ensures in
     let n = length (rules_in p cs) in
     let j = c.loop-j.j in
     let h : j < length (rows_of ls) = omega (arith, c.len-j-end.ensures.0) in
     let k : n + j - n ≡ j = omega arith in
     let found = in_rows p cs ls (forces S (member c.args.settled.now)) j h (λ q l. c.loop-r.invariant q (omega (arith, e.0))) c.loop-j.invariant w.0 in
-    let literal : c.in-Some-forced-by-row.l ≡ first span (within S (clause (clauses_in p cs ls) (n + j))) =
+    let literal : c.in-Some-forced_by_row.l ≡ first span (within S (clause (clauses_in p cs ls) (n + j))) =
     w.1 ∙ ap (λ (C : Literals). first span (within S C)) (sym (clause_row p cs ls (n + j) (omega arith) ∙ ap (λ (i : ℕ). (get_or (rows_of ls) i nothing_noted).literals) k)) in
-    subst (λ (i : ℕ). UnitOf S (member c.args.settled.now) (clauses_in p cs ls) (Some (i + j, c.in-Some-forced-by-row.l))) (sym e.0)
+    subst (λ (i : ℕ). UnitOf S (member c.args.settled.now) (clauses_in p cs ls) (Some (i + j, c.in-Some-forced_by_row.l))) (sym e.0)
     (found, literal, w.2, omega (arith, e.0, e.1, length-rows ls))
 
 pub returns : goal.returns
 returns g c =
     let p = g.P.Case.meaning c.args.pile.now in
     nowhere p c.args.conditions.now c.args.learned.now (forces (member c.args.set.now) (member c.args.settled.now))
-    (λ q l. c.loop-r.invariant q (omega (arith, c.in-force-count.ensures.0))) (λ q l. c.loop-j.invariant q (omega (arith, c.len-j-end.ensures.0)))
+    (λ q l. c.loop-r.invariant q (omega (arith, c.in_force-count.ensures.0))) (λ q l. c.loop-j.invariant q (omega (arith, c.len-j-end.ensures.0)))

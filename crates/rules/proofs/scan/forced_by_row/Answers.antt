@@ -5,12 +5,12 @@ use Rattle.tables.specs.Learned.{rows_of}
 use Rattle.rules.proofs.Scans.{forces_only, forces_only_settled, forces_many}
 use Rattle.rules.proofs.scan.forced_by_row.Goals as goal
 
-pub returns-in-default : goal.returns-in-default
-returns-in-default c =
+pub returns-in_default : goal.returns-in_default
+returns-in_default c =
     let S = member c.args.set.now in
     let C = (get_or (rows_of c.args.learned.now) c.args.j nothing_noted).literals in
     forces_many S C (member c.args.settled.now) (member c.meet.result) (λ k. c.meet.ensures k ∙ ap (λ (b : Bool). b && S k) (c.row.ensures k))
-    (λ l h one. c.in-default.ensures l (record { is_literal = h; is_alone = one }))
+    (λ l h one. c.in_default.ensures l (record { is_literal = h; is_alone = one }))
 
 pub returns-then-has : goal.returns-then-has
 returns-then-has c =

@@ -29,8 +29,8 @@ backtrack-requires g c =
     let w = c.in-Some.ensures in
     let L : ℕ = first (2 * n) (at_level t D (level t)) in
     let f = λ (x : ℕ). level_of t (complement x) in
-    let i : c.level-below-i.result ≡ greatest (2 * n) (others D L) f = c.level-below-i.ensures ∙ ap (λ (x : ℕ). greatest (2 * n) (others D x) f) w.1 in (
-      c.in-force-base.ensures.1,
+    let i : c.level_below-i.result ≡ greatest (2 * n) (others D L) f = c.level_below-i.ensures ∙ ap (λ (x : ℕ). greatest (2 * n) (others D x) f) w.1 in (
+      c.in_force-base.ensures.1,
       (
         subst (λ (x : ℕ). x < level t) (sym i) (lower n t D narrow (few tb.trail) (apart tb.trail) (levelled tb.trail) w.0),
         ap₂ (λ (x y : ℕ). has_place (cut x t) y) i w.1 ∙ has_room n t D narrow (few tb.trail) (apart tb.trail) (levelled tb.trail) w.0,
@@ -49,12 +49,12 @@ returns-in-Some g c =
     let D = member c.args.set in
     let w = c.in-Some.ensures in
     let l = c.in-Some.literal in
-    let i = c.level-below-i.result in
-    let base = c.in-force-base.ensures.0 in
+    let i = c.level_below-i.result in
+    let base = c.in_force-base.ensures.0 in
     record {
       leaves = λ b.
           ap (state K n b) (c.backtrack.ensures.leaves ∙ ap (λ (r : ℕ). backing r D l i (shape tb)) base)
-          ∙ sym (backward_yes m (seen K p b tb) D (can_backtrack n t D) l i w.0 w.1 c.level-below-i.ensures);
+          ∙ sym (backward_yes m (seen K p b tb) D (can_backtrack n t D) l i w.0 w.1 c.level_below-i.ensures);
       notes = λ _. subst (λ (x : ℕ). Right x c.backtrack.new.tables) base c.backtrack.ensures.notes;
       holds = c.backtrack.ensures.holds;
     }

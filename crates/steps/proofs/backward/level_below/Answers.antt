@@ -31,8 +31,8 @@ returns g c =
     let D = member c.args.set.now in
     let l = c.args.literal in
     let rest : (x : ℕ) → member c.remove.new.self x ≡ (not (eqb x l) && (D x && ltb x n2)) =
-    λ x. c.remove.ensures x ∙ ap (λ (b : Bool). not (eqb x l) && b) (c.meet-rest.ensures x ∙ ap (λ (b : Bool). D x && b) (c.all-literals.ensures x)) in
-    c.greatest-level.ensures
+    λ x. c.remove.ensures x ∙ ap (λ (b : Bool). not (eqb x l) && b) (c.meet-rest.ensures x ∙ ap (λ (b : Bool). D x && b) (c.all_literals.ensures x)) in
+    c.greatest_level.ensures
     ∙ greatest_narrow n2 (member c.remove.new.self) (others D l) few
     (λ x h. rest x ∙ ap (λ (b : Bool). not (eqb x l) && (D x && b)) (lt-ltb x n2 h) ∙ drop_true (eqb x l) (D x))
     (λ x h. rest x ∙ ap (λ (b : Bool). not (eqb x l) && (D x && b)) (le-ltb x n2 h) ∙ drop_false (eqb x l) (D x))

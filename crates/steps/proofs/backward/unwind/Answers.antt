@@ -15,13 +15,13 @@ use Rattle.steps.specs.States.{state, seen}
 use Rattle.steps.proofs.Staged.{back_none, back_skip, back_resolve, back_stay}
 use Rattle.steps.proofs.backward.unwind.Goals as goal
 
-pub returns-in-default : goal.returns-in-default
-returns-in-default g c =
+pub returns-in_default : goal.returns-in_default
+returns-in_default g c =
     let K = kind_of g.K.Charge in
     let p = g.P.Case.meaning c.args.pile.now in
     let tb = c.args.tables.now in
     record {
-      leaves = λ b. sym (back_none (contents p) (seen K p b tb) (member c.args.set) (listed tb.trail) c.in-default.ensures);
+      leaves = λ b. sym (back_none (contents p) (seen K p b tb) (member c.args.set) (listed tb.trail) c.in_default.ensures);
       notes = λ h. h;
       holds = refl;
     }
@@ -38,7 +38,7 @@ returns-then-not-has g c =
     record {
       leaves = λ b. ap (state K (contents p).options b) c.pop.ensures.leaves
           ∙ sym (back_skip (contents p) (seen K p b tb) D t e (tail_of t) c.in-Some.ensures (ap D (sym c.opposite.ensures) ∙ sym c.if-not-has.ensures));
-      notes = subst (λ (x : ℕ). Right x tb → Right x c.pop.new.tables) c.in-force-base.ensures.0 c.pop.ensures.notes;
+      notes = subst (λ (x : ℕ). Right x tb → Right x c.pop.new.tables) c.in_force-base.ensures.0 c.pop.ensures.notes;
       holds = c.pop.ensures.holds;
     }
 
@@ -56,12 +56,12 @@ returns-in-Forced g c =
       leaves = λ b.
           ap (state K (contents p).options b) (c.pop-in-Forced.ensures.leaves ∙ ap (λ (x : Literals). popping x (shape tb)) (fun_ext c.resolvent-rest.ensures))
           ∙ sym (back_resolve (contents p) (seen K p b tb) D t e (tail_of t) c.in-Some.ensures i (ap D (sym c.opposite.ensures) ∙ sym c.if-not-has.ensures) (ap reason_of c.in-Forced.is));
-      notes = subst (λ (x : ℕ). Right x tb → Right x c.pop-in-Forced.new.tables) c.in-force-base.ensures.0 c.pop-in-Forced.ensures.notes;
+      notes = subst (λ (x : ℕ). Right x tb → Right x c.pop-in-Forced.new.tables) c.in_force-base.ensures.0 c.pop-in-Forced.ensures.notes;
       holds = c.pop-in-Forced.ensures.holds;
     }
 
-pub returns-in-default-reason : goal.returns-in-default-reason
-returns-in-default-reason g c =
+pub returns-in_default-reason : goal.returns-in_default-reason
+returns-in_default-reason g c =
     let K = kind_of g.K.Charge in
     let p = g.P.Case.meaning c.args.pile.now in
     let tb = c.args.tables.now in
@@ -69,7 +69,7 @@ returns-in-default-reason g c =
     let D = member c.args.set in
     let e = entry_of c.in-Some.top in
     record {
-      leaves = λ b. sym (back_stay (contents p) (seen K p b tb) D t e (tail_of t) c.in-Some.ensures (ap D (sym c.opposite.ensures) ∙ sym c.if-not-has.ensures) (ap reason_of c.in-default-reason.is));
+      leaves = λ b. sym (back_stay (contents p) (seen K p b tb) D t e (tail_of t) c.in-Some.ensures (ap D (sym c.opposite.ensures) ∙ sym c.if-not-has.ensures) (ap reason_of c.in_default-reason.is));
       notes = λ h. h;
       holds = refl;
     }

@@ -20,8 +20,8 @@ use Rattle.steps.proofs.Marking.{Notes, notes_remove, notes_stay, notes_learn}
 use Rattle.steps.proofs.Places.{leaving_le, leaving_noted, Dropped, dropped, cut_shorter, place_renamed}
 use Rattle.steps.proofs.changes.backtrack.Goals as goal
 
-pub overflow-add-base : goal.overflow-add-base
-overflow-add-base c =
+pub overflow_add-base : goal.overflow_add-base
+overflow_add-base c =
     let rs = rows_of c.note.new.self in
     omega (arith, c.requires.0, c.leaving-p.ensures, leaving_le (length rs) (λ j. not (get_or rs j nothing_noted).reason), length-rows c.note.new.self)
 

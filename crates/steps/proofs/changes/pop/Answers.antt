@@ -18,8 +18,8 @@ returns c =
     let rs = rows_of tb.learned in
     let r = reason_of c.args.top.reason in
     let trail = c.pop.ensures in
-    let named = c.is-named-named.ensures ∙ ap (λ (x : Trail). still_named x r) trail in
-    let rows = c.mark-reason.ensures ∙ ap (λ (b : Bool). mark_named base r b rs) named in
+    let named = c.is_named-named.ensures ∙ ap (λ (x : Trail). still_named x r) trail in
+    let rows = c.mark_reason.ensures ∙ ap (λ (b : Bool). mark_named base r b rs) named in
     record {
       leaves =
           same_shape {b = popping (member c.args.set) (shape tb)} refl trail refl refl (ap rules_learned rows ∙ learned_named base r (still_named t r) rs) refl c.raised-tables.ensures;

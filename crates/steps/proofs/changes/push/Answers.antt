@@ -16,7 +16,7 @@ returns-then-push c =
     let rs = rows_of tb.learned in
     let r = reason_of c.args.reason in
     let trail = c.if-push.ensures.leaves in
-    let rows = c.mark-reason.ensures in
+    let rows = c.mark_reason.ensures in
     record {
       leaves =
           same_shape {b = pushing c.args.literal c.args.reason (shape tb)} refl trail refl refl (ap rules_learned rows ∙ learned_named c.args.base r true rs) refl c.raised-tables.ensures

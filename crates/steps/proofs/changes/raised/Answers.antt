@@ -3,4 +3,4 @@ use Rattle.steps.proofs.changes.raised.Goals as goal
 
 pub returns : goal.returns
 unfolding up
-returns c = c.«saturating-add».ensures
+returns c = c.saturating_add.ensures

@@ -20,5 +20,5 @@ unfolding best_not_above
 returns-in-Some g c =
     let K = kind_of g.K.Charge in
     let m = contents (g.P.Case.meaning c.args.pile.now) in
-    c.not_above.ensures ∙ ap (g.K.Charge.not_above c.in-Some.charge) c.trail-charge.ensures
+    c.not_above.ensures ∙ ap (g.K.Charge.not_above c.in-Some.charge) c.trail_charge.ensures
     ∙ sym (ap (λ o. best_not_above K m (best_seen K m.options o (member c.args.choice.now)) (on (listed c.args.trail.now))) c.in-Some.is)

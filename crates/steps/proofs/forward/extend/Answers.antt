@@ -71,7 +71,7 @@ returns-in-Some g c =
           ap (state K n b) (c.push.ensures.leaves ∙ ap (λ (x : Bool). cond x (pushing l (Forced i) (shape tb)) (shape tb)) (full_place t l h))
           ∙ sym (extend_full K m s (place (is_unit n t) cs) h))
           (cases_lt (length t) 56);
-      notes = subst (λ (x : ℕ). Right x tb → Right x c.push.new.tables) c.in-force-base.ensures.0 c.push.ensures.notes;
+      notes = subst (λ (x : ℕ). Right x tb → Right x c.push.new.tables) c.in_force-base.ensures.0 c.push.ensures.notes;
       holds = c.push.ensures.holds;
     }
 
@@ -105,6 +105,6 @@ returns-in-None g c =
           ap (state K n b) (c.push-in-None.ensures.leaves ∙ ap (λ (x : Bool). cond x (pushing l Decided (shape tb)) (shape tb)) (full_place t l h))
           ∙ sym (extend_full K m s (place (is_unit n t) cs) h))
           (cases_lt (length t) 56);
-      notes = subst (λ (x : ℕ). Right x tb → Right x c.push-in-None.new.tables) c.in-force-base.ensures.0 c.push-in-None.ensures.notes;
+      notes = subst (λ (x : ℕ). Right x tb → Right x c.push-in-None.new.tables) c.in_force-base.ensures.0 c.push-in-None.ensures.notes;
       holds = c.push-in-None.ensures.holds;
     }

@@ -33,18 +33,18 @@ returns-in-Some g c =
     let cs = clauses_in p tb.conditions tb.learned in
     let few : 2 * n ≤ 128 = omega (arith, contents_options p, (g.P.Case.limits c.args.pile.now).few_options) in
     let s = seen K p c.args.best.now tb in
-    let same = misses_false n t (member c.live-literals-live.result) few c.live-literals-live.ensures in
+    let same = misses_false n t (member c.live_literals-live.result) few c.live_literals-live.ensures in
     let first : core.some c.in-Some.i ≡ place (is_false n t) cs = c.in-Some.ensures ∙ ap (λ (f : Literals → Bool). place f cs) same in
     record {
-      leaves = λ _. ap (state K n c.args.best.now) (c.conflict-with.ensures.leaves ∙ ap (λ (D : Literals). conflicting D (shape tb)) (fun_ext c.clause-set.ensures))
+      leaves = λ _. ap (state K n c.args.best.now) (c.conflict_with.ensures.leaves ∙ ap (λ (D : Literals). conflicting D (shape tb)) (fun_ext c.clause-set.ensures))
           ∙ sym (forward_false K m s c.in-Some.i first);
-      notes = c.conflict-with.ensures.notes _;
-      holds = c.conflict-with.ensures.holds;
+      notes = c.conflict_with.ensures.notes _;
+      holds = c.conflict_with.ensures.holds;
     }
 
-pub returns-then-best-is-not-above : goal.returns-then-best-is-not-above
+pub returns-then-best_is_not_above : goal.returns-then-best_is_not_above
 unfolding conflicted complements clauses in_force
-returns-then-best-is-not-above g c =
+returns-then-best_is_not_above g c =
     let K = kind_of g.K.Charge in
     let p = g.P.Case.meaning c.args.pile.now in
     let m = contents p in
@@ -54,13 +54,13 @@ returns-then-best-is-not-above g c =
     let cs = clauses_in p tb.conditions tb.learned in
     let few : 2 * n ≤ 128 = omega (arith, contents_options p, (g.P.Case.limits c.args.pile.now).few_options) in
     let s = seen K p c.args.best.now tb in
-    let same = misses_false n t (member c.live-literals-live.result) few c.live-literals-live.ensures in
-    let none : core.none ≡ place (is_false n t) cs = c.in-default.ensures ∙ ap (λ (f : Literals → Bool). place f cs) same in
+    let same = misses_false n t (member c.live_literals-live.result) few c.live_literals-live.ensures in
+    let none : core.none ≡ place (is_false n t) cs = c.in_default.ensures ∙ ap (λ (f : Literals → Bool). place f cs) same in
     record {
-      leaves = λ _. ap (state K n c.args.best.now) (c.conflict-with-then-best-is-not-above.ensures.leaves ∙ ap (λ (D : Literals). conflicting D (shape tb)) (fun_ext c.complements-set.ensures))
-          ∙ sym (forward_best K m s none (sym c.if-best-is-not-above.ensures));
-      notes = c.conflict-with-then-best-is-not-above.ensures.notes _;
-      holds = c.conflict-with-then-best-is-not-above.ensures.holds;
+      leaves = λ _. ap (state K n c.args.best.now) (c.conflict_with-then-best_is_not_above.ensures.leaves ∙ ap (λ (D : Literals). conflicting D (shape tb)) (fun_ext c.complements-set.ensures))
+          ∙ sym (forward_best K m s none (sym c.if-best_is_not_above.ensures));
+      notes = c.conflict_with-then-best_is_not_above.ensures.notes _;
+      holds = c.conflict_with-then-best_is_not_above.ensures.holds;
     }
 
 pub extend-requires : goal.extend-requires
@@ -69,11 +69,11 @@ extend-requires g c =
     let n = (contents p).options in
     let t = listed c.args.tables.now.trail in
     let few : 2 * n ≤ 128 = omega (arith, contents_options p, (g.P.Case.limits c.args.pile.now).few_options) in
-    let L = member c.live-literals-live.result in
+    let L = member c.live_literals-live.result in
     let R = member c.literals-set.result in
     let low = c.in-Some-first.ensures in (
-      c.live-literals-live.ensures,
-      lowest_unset n t L few c.live-literals-live.ensures R c.literals-set.ensures c.in-Some-first.lowest (sym (c.without.ensures c.in-Some-first.lowest) ∙ low.is_in)
+      c.live_literals-live.ensures,
+      lowest_unset n t L few c.live_literals-live.ensures R c.literals-set.ensures c.in-Some-first.lowest (sym (c.without.ensures c.in-Some-first.lowest) ∙ low.is_in)
           (λ k h. sym (c.without.ensures k) ∙ low.none_below k h),
     )
 
@@ -89,17 +89,17 @@ returns-in-Some-first g c =
     let cs = clauses_in p tb.conditions tb.learned in
     let few : 2 * n ≤ 128 = omega (arith, contents_options p, (g.P.Case.limits c.args.pile.now).few_options) in
     let s = seen K p c.args.best.now tb in
-    let L = member c.live-literals-live.result in
+    let L = member c.live_literals-live.result in
     let R = member c.literals-set.result in
-    let same = misses_false n t L few c.live-literals-live.ensures in
-    let none : core.none ≡ place (is_false n t) cs = c.in-default.ensures ∙ ap (λ (f : Literals → Bool). place f cs) same in
+    let same = misses_false n t L few c.live_literals-live.ensures in
+    let none : core.none ≡ place (is_false n t) cs = c.in_default.ensures ∙ ap (λ (f : Literals → Bool). place f cs) same in
     let low = c.in-Some-first.ensures in
     let v = c.in-Some-first.lowest / 2 in
     let lowest : LowestUnset n t v =
-    lowest_unset n t L few c.live-literals-live.ensures R c.literals-set.ensures c.in-Some-first.lowest (sym (c.without.ensures c.in-Some-first.lowest) ∙ low.is_in)
+    lowest_unset n t L few c.live_literals-live.ensures R c.literals-set.ensures c.in-Some-first.lowest (sym (c.without.ensures c.in-Some-first.lowest) ∙ low.is_in)
     (λ k h. sym (c.without.ensures k) ∙ low.none_below k h) in
     record {
-      leaves = λ _. c.extend.ensures.leaves c.args.best.now ∙ sym (forward_extend K m s none (sym c.if-best-is-not-above.ensures) (lowest_first n t v lowest).1);
+      leaves = λ _. c.extend.ensures.leaves c.args.best.now ∙ sym (forward_extend K m s none (sym c.if-best_is_not_above.ensures) (lowest_first n t v lowest).1);
       notes = c.extend.ensures.notes;
       holds = c.extend.ensures.holds;
     }
@@ -116,15 +116,15 @@ returns-in-None g c =
     let cs = clauses_in p tb.conditions tb.learned in
     let few : 2 * n ≤ 128 = omega (arith, contents_options p, (g.P.Case.limits c.args.pile.now).few_options) in
     let s = seen K p c.args.best.now tb in
-    let L = member c.live-literals-live.result in
+    let L = member c.live_literals-live.result in
     let R = member c.literals-set.result in
-    let same = misses_false n t L few c.live-literals-live.ensures in
-    let none : core.none ≡ place (is_false n t) cs = c.in-default.ensures ∙ ap (λ (f : Literals → Bool). place f cs) same in
-    let full : any n (unset t) ≡ false = none_unset n t L few c.live-literals-live.ensures R c.literals-set.ensures (λ k. sym (c.without.ensures k) ∙ c.in-None.ensures k) in
+    let same = misses_false n t L few c.live_literals-live.ensures in
+    let none : core.none ≡ place (is_false n t) cs = c.in_default.ensures ∙ ap (λ (f : Literals → Bool). place f cs) same in
+    let full : any n (unset t) ≡ false = none_unset n t L few c.live_literals-live.ensures R c.literals-set.ensures (λ k. sym (c.without.ensures k) ∙ c.in-None.ensures k) in
     record {
       leaves = λ _.
-          ap₂ (λ (x : Shape) (k : K.charges). state K n (Some k) x) (c.improve.ensures.leaves ∙ ap (λ (C : Literals). improving C (shape tb)) (fun_ext c.literals-set.ensures)) c.trail-charge.ensures
-          ∙ sym (forward_improve K m s none (sym c.if-best-is-not-above.ensures) full);
+          ap₂ (λ (x : Shape) (k : K.charges). state K n (Some k) x) (c.improve.ensures.leaves ∙ ap (λ (C : Literals). improving C (shape tb)) (fun_ext c.literals-set.ensures)) c.trail_charge.ensures
+          ∙ sym (forward_improve K m s none (sym c.if-best_is_not_above.ensures) full);
       notes = c.improve.ensures.notes _;
       holds = c.improve.ensures.holds;
     }

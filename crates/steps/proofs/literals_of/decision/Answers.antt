@@ -2,16 +2,16 @@ use Rattle.std.proofs.Common.{◌≡◌, ◌+◌, ◌*◌, Bool, cond, not, sym,
 use Rattle.calculus.specs.Changes.{decision}
 use Rattle.steps.proofs.literals_of.decision.Goals as goal
 
-pub returns-then-not-above : goal.returns-then-not-above
+pub returns-then-not_above : goal.returns-then-not_above
 unfolding decision
-returns-then-not-above g c =
+returns-then-not_above g c =
     let v = c.args.v in
-    let tells = sym (ap₂ g.K.Charge.not_above c.price_off.ensures c.price_on.ensures) ∙ sym c.if-not-above.ensures in
+    let tells = sym (ap₂ g.K.Charge.not_above c.price-off.ensures c.price-on.ensures) ∙ sym c.if-not_above.ensures in
     sym (ap (λ (b : Bool). cond (not b) (2 * v) (2 * v + 1)) tells)
 
-pub returns-else-not-above : goal.returns-else-not-above
+pub returns-else-not_above : goal.returns-else-not_above
 unfolding decision
-returns-else-not-above g c =
+returns-else-not_above g c =
     let v = c.args.v in
-    let tells = sym (ap₂ g.K.Charge.not_above c.price_off.ensures c.price_on.ensures) ∙ sym c.if-not-above.ensures in
+    let tells = sym (ap₂ g.K.Charge.not_above c.price-off.ensures c.price-on.ensures) ∙ sym c.if-not_above.ensures in
     sym (ap (λ (b : Bool). cond (not b) (2 * v) (2 * v + 1)) tells)

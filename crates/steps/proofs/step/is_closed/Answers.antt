@@ -21,5 +21,5 @@ returns-in-Some g c =
     let n = (contents p).options in
     let few : 2 * n ≤ 128 = omega (arith, contents_options p, (g.P.Case.limits c.args.pile.now).few_options) in
     let D = member c.in-Some.set in
-    empty_told n D (member c.meet.result) c.is-empty.result few (λ x. c.meet.ensures x ∙ ap (λ (b : Bool). D x && b) (c.all-literals.ensures x)) c.is-empty.ensures.yes c.is-empty.ensures.no
+    empty_told n D (member c.meet.result) c.is_empty.result few (λ x. c.meet.ensures x ∙ ap (λ (b : Bool). D x && b) (c.all_literals.ensures x)) c.is_empty.ensures.yes c.is_empty.ensures.no
     ∙ sym (ap (λ (o : Option LiteralSet). empty_set n (conflict_of o)) c.in-Some.is)

@@ -13,12 +13,12 @@ use Rattle.steps.specs.States.{seen, NotedRight}
 use Rattle.steps.proofs.Staged.{step_closed, step_open, by_some}
 use Rattle.steps.proofs.step.step.Goals as goal
 
-pub returns-then-is-closed : goal.returns-then-is-closed
+pub returns-then-is_closed : goal.returns-then-is_closed
 unfolding closed
-returns-then-is-closed g c =
+returns-then-is_closed g c =
     let K = kind_of g.K.Charge in
     let p = g.P.Case.meaning c.args.pile.now in
-    let shut = sym c.if-is-closed.ensures in
+    let shut = sym c.if-is_closed.ensures in
     record { answers = sym (ap not shut); leaves = sym (step_closed K (contents p) (seen K p c.args.best.now c.args.tables.now) shut); notes = λ h. h }
 
 pub returns-in-None : goal.returns-in-None
@@ -28,7 +28,7 @@ returns-in-None g c =
     let p = g.P.Case.meaning c.args.pile.now in
     let tb = c.args.tables.now in
     let s = seen K p c.args.best.now tb in
-    let yet = sym c.if-is-closed.ensures in
+    let yet = sym c.if-is_closed.ensures in
     record {
       answers = sym (ap not yet);
       leaves = c.forward.ensures.leaves c.in-None.is ∙ sym (step_open K (contents p) s yet ∙ ap (λ (o : Option LiteralSet). by_conflict K (contents p) s (conflict_of o)) c.in-None.is);
@@ -44,7 +44,7 @@ returns-in-Some g c =
     let tb = c.args.tables.now in
     let b = c.args.best.now in
     let s = seen K p b tb in
-    let yet = sym c.if-is-closed.ensures in
+    let yet = sym c.if-is_closed.ensures in
     record {
       answers = sym (ap not yet);
       leaves =

@@ -5,25 +5,25 @@ use Rattle.search.specs.Stands.{stands}
 use Rattle.search.proofs.Checking.{add_accepted, add_refused, add_done}
 use Rattle.search.proofs.search.Search.add_on.Goals as goal
 
-pub returns-in-err-check-add : goal.returns-in-err-check-add
-returns-in-err-check-add g c =
+pub returns-in_err-check_add : goal.returns-in_err-check_add
+returns-in_err-check_add g c =
     let K = kind_of g.K.Charge in
     let x = c.args.self.now in
     let p = g.P.Case.meaning x.pile in
-    let q = err_from_is_err_and c.from-residual.result c.from-residual.ensures.1 in
+    let q = err_from_is_err_and c.from_residual.result c.from_residual.ensures.1 in
     record {
-      answers = q.1 ∙ ap Err q.2 ∙ c.in-err-check-add.ensures;
-      leaves = sym (add_refused K p (stands K p x) c.args.literals.now c.in-err-check-add.field-0.0 c.in-err-check-add.ensures);
+      answers = q.1 ∙ ap Err q.2 ∙ c.in_err-check_add.ensures;
+      leaves = sym (add_refused K p (stands K p x) c.args.literals.now c.in_err-check_add.field-0.0 c.in_err-check_add.ensures);
       notes = λ h. h;
       pile = refl;
     }
 
-pub take-in-requires : goal.take-in-requires
-take-in-requires g c =
+pub take_in-requires : goal.take_in-requires
+take_in-requires g c =
     let K = kind_of g.K.Charge in
     let x = c.args.self.now in
     let p = g.P.Case.meaning x.pile in
-    (add_accepted K p (stands K p x) c.args.literals.now c.in-ok-check-add.ensures).1
+    (add_accepted K p (stands K p x) c.args.literals.now c.in_ok-check_add.ensures).1
 
 pub returns : goal.returns
 returns g c =
@@ -31,11 +31,11 @@ returns g c =
     let x = c.args.self.now in
     let p = g.P.Case.meaning x.pile in
     let s = stands K p x in
-    let ok = c.in-ok-check-add.ensures in
+    let ok = c.in_ok-check_add.ensures in
     let w = add_accepted K p s c.args.literals.now ok in
     record {
       answers = ok;
-      leaves = c.take-in.ensures.leaves ∙ sym (add_done K p s c.args.literals.now w.0 w.1);
-      notes = λ _. c.take-in.ensures.notes;
-      pile = c.take-in.ensures.pile;
+      leaves = c.take_in.ensures.leaves ∙ sym (add_done K p s c.args.literals.now w.0 w.1);
+      notes = λ _. c.take_in.ensures.notes;
+      pile = c.take_in.ensures.pile;
     }

@@ -28,4 +28,4 @@ returns-in-Some g c =
     let same : k ≡ n = c.options-n.ensures ∙ sym (contents_options p) in
     let whole : k - 0 ≡ k = omega arith in
     let choice = ap (λ (i : ℕ). take i c.chosen-choice.result) whole ∙ c.chosen-choice.ensures.first ∙ ap (λ (i : ℕ). choice_of i S) same in
-    ap not (c.sets-one.ensures ∙ ap (λ (x : List Bool). keeps (sets x) rule) choice) ∙ sym (ap (λ o. breaks (best_seen K n o S) rule) c.in-Some.is)
+    ap not (c.sets_one.ensures ∙ ap (λ (x : List Bool). keeps (sets x) rule) choice) ∙ sym (ap (λ o. breaks (best_seen K n o S) rule) c.in-Some.is)

@@ -16,44 +16,44 @@ returns-then-oversize g c =
     let p = g.P.Case.meaning c.args.self.now.pile in
     sym (done_oversize K p (stands K p c.args.self.now) (add c.args.literals.now) (sym c.if-oversize.ensures))
 
-pub returns-then-literals-gt-LONGEST-CONDITION : goal.returns-then-literals-gt-LONGEST-CONDITION
+pub returns-then-literals-gt-LONGEST_CONDITION : goal.returns-then-literals-gt-LONGEST_CONDITION
 unfolding checked
-returns-then-literals-gt-LONGEST-CONDITION g c =
+returns-then-literals-gt-LONGEST_CONDITION g c =
     let K = kind_of g.K.Charge in
     let p = g.P.Case.meaning c.args.self.now.pile in
     let r = c.args.literals.now in
     let cs = conditions_of c.args.self.now.tables.conditions in
     sym (done_add K p (stands K p c.args.self.now) (sym c.if-oversize.ensures) r (core.some TooLong) (add_long (contents p) cs r (omega arith)))
 
-pub returns-then-past-all-options : goal.returns-then-past-all-options
+pub returns-then-past_all-options : goal.returns-then-past_all-options
 unfolding checked
-returns-then-past-all-options g c =
+returns-then-past_all-options g c =
     let K = kind_of g.K.Charge in
     let p = g.P.Case.meaning c.args.self.now.pile in
     let r = c.args.literals.now in
     let cs = conditions_of c.args.self.now.tables.conditions in
     sym
     (done_add K p (stands K p c.args.self.now) (sym c.if-oversize.ensures) r (core.some NoSuchLiteral)
-    (add_unknown (contents p) cs r (omega arith) (omega (arith, c.past_all.ensures, c.options.ensures, contents_options p, c.if-past-all-options.true))))
+    (add_unknown (contents p) cs r (omega arith) (omega (arith, c.past_all.ensures, c.options.ensures, contents_options p, c.if-past_all-options.true))))
 
-pub returns-then-len-ge-MOST-CONDITIONS : goal.returns-then-len-ge-MOST-CONDITIONS
+pub returns-then-len-ge-MOST_CONDITIONS : goal.returns-then-len-ge-MOST_CONDITIONS
 unfolding checked
-returns-then-len-ge-MOST-CONDITIONS g c =
+returns-then-len-ge-MOST_CONDITIONS g c =
     let K = kind_of g.K.Charge in
     let p = g.P.Case.meaning c.args.self.now.pile in
     let r = c.args.literals.now in
     let cs = conditions_of c.args.self.now.tables.conditions in
     sym
     (done_add K p (stands K p c.args.self.now) (sym c.if-oversize.ensures) r (core.some Full)
-    (add_full (contents p) cs r (omega arith) (omega (arith, c.past_all.ensures, c.options.ensures, contents_options p, c.if-past-all-options.false)) (omega (arith, c.len.ensures.0, c.if-len-ge-MOST-CONDITIONS.true))))
+    (add_full (contents p) cs r (omega arith) (omega (arith, c.past_all.ensures, c.options.ensures, contents_options p, c.if-past_all-options.false)) (omega (arith, c.len.ensures.0, c.if-len-ge-MOST_CONDITIONS.true))))
 
-pub returns-else-len-ge-MOST-CONDITIONS : goal.returns-else-len-ge-MOST-CONDITIONS
+pub returns-else-len-ge-MOST_CONDITIONS : goal.returns-else-len-ge-MOST_CONDITIONS
 unfolding checked
-returns-else-len-ge-MOST-CONDITIONS g c =
+returns-else-len-ge-MOST_CONDITIONS g c =
     let K = kind_of g.K.Charge in
     let p = g.P.Case.meaning c.args.self.now.pile in
     let r = c.args.literals.now in
     let cs = conditions_of c.args.self.now.tables.conditions in
     sym
     (done_add K p (stands K p c.args.self.now) (sym c.if-oversize.ensures) r core.none
-    (add_fine (contents p) cs r (omega arith) (omega (arith, c.past_all.ensures, c.options.ensures, contents_options p, c.if-past-all-options.false)) (omega (arith, c.len.ensures.0, c.if-len-ge-MOST-CONDITIONS.false))))
+    (add_fine (contents p) cs r (omega arith) (omega (arith, c.past_all.ensures, c.options.ensures, contents_options p, c.if-past_all-options.false)) (omega (arith, c.len.ensures.0, c.if-len-ge-MOST_CONDITIONS.false))))

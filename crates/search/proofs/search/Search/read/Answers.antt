@@ -14,7 +14,7 @@ returns g c =
     let p = g.P.Case.meaning x.pile in
     let call = calls.read (length c.args.out.now) in
     record {
-      answers = c.read-on.ensures.answers;
-      writes = c.read-on.ensures.writes;
+      answers = c.read_on.ensures.answers;
+      writes = c.read_on.ensures.writes;
       history = made_by K g.met.K.Charge.laws p (g.P.Case.limits x.pile) x x call (read_stays K p (stands K p x) call refl) (λ h. h);
     }

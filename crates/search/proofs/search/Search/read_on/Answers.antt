@@ -50,13 +50,13 @@ returns-then-oversize g c =
     let told = answer_oversize K p (stands K p x) (calls.read (length c.args.out.now)) (sym c.if-oversize.ensures) in
     record { answers = sym (ap read_reply told); writes = sym (ap (λ a. calls.buffer_after a c.args.out.now) told) }
 
-pub returns-in-default : goal.returns-in-default
+pub returns-in_default : goal.returns-in_default
 unfolding calls.buffer_after
-returns-in-default g c =
+returns-in_default g c =
     let K = kind_of g.K.Charge in
     let x = c.args.self.now in
     let p = g.P.Case.meaning x.pile in
-    let none = ap (λ o. best_seen K (contents p).options o (member x.tables.choice)) c.in-default.is in
+    let none = ap (λ o. best_seen K (contents p).options o (member x.tables.choice)) c.in_default.is in
     let told = read_none K p (stands K p x) (length c.args.out.now) (sym c.if-oversize.ensures) none in
     record { answers = sym (ap read_reply told); writes = sym (ap (λ a. calls.buffer_after a c.args.out.now) told) }
 
@@ -86,5 +86,5 @@ returns g c =
     let told = read_shown K p (stands K p x) (length c.args.out.now) (sym c.if-oversize.ensures) _ best (omega (arith, c.options-n.ensures, contents_options p, c.if-out-n.false)) in
     record {
       answers = sym (ap read_reply told);
-      writes = c.write-marks.ensures ∙ ap (λ (y : List Bool). calls.written y c.args.out.now) choice ∙ sym (ap (λ a. calls.buffer_after a c.args.out.now) told);
+      writes = c.write_marks.ensures ∙ ap (λ (y : List Bool). calls.written y c.args.out.now) choice ∙ sym (ap (λ a. calls.buffer_after a c.args.out.now) told);
     }

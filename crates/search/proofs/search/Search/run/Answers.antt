@@ -7,7 +7,7 @@ pub returns : goal.returns
 returns g c =
     let p = g.P.Case.meaning c.args.self.now.pile in
     record {
-      answers = c.run-on.ensures.answers;
-      history = made_by (kind_of g.K.Charge) g.met.K.Charge.laws p (g.P.Case.limits c.args.self.now.pile) c.args.self.now c.run-on.new.self (calls.run c.args.budget) c.run-on.ensures.leaves c.run-on.ensures.notes;
-      pile = c.run-on.ensures.pile;
+      answers = c.run_on.ensures.answers;
+      history = made_by (kind_of g.K.Charge) g.met.K.Charge.laws p (g.P.Case.limits c.args.self.now.pile) c.args.self.now c.run_on.new.self (calls.run c.args.budget) c.run_on.ensures.leaves c.run_on.ensures.notes;
+      pile = c.run_on.ensures.pile;
     }

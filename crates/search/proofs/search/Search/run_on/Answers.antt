@@ -34,14 +34,14 @@ returns g c =
     let s = stands K p c.args.self.now in
     let b = c.args.budget in
     let e = sym c.if-oversize.ensures in
-    let u = c.steps-up-to-made.new.self in
-    let left = c.steps-up-to-made.ensures.leaves in
-    let same = c.steps-up-to-made.ensures.pile in
+    let u = c.steps_up_to-made.new.self in
+    let left = c.steps_up_to-made.ensures.leaves in
+    let same = c.steps_up_to-made.ensures.pile in
     let says : c.verdict.result ≡ verdict_of (runs.verdict m (runs.run_steps K m b s)) =
     subst (λ x. c.verdict.result ≡ verdict_of (runs.verdict (contents (M x)) (stands K (M x) u))) same c.verdict.ensures ∙ ap (λ (x : State K). verdict_of (runs.verdict m x)) left in
     record {
-      answers = ap₂ {C = Result (ℕ × Verdict) Refusal} (λ (k : ℕ) (v : Verdict). Ok (k, v)) c.steps-up-to-made.ensures.answers says ∙ sym (ap run_reply (answer_sound K p s (calls.run b) e));
+      answers = ap₂ {C = Result (ℕ × Verdict) Refusal} (λ (k : ℕ) (v : Verdict). Ok (k, v)) c.steps_up_to-made.ensures.answers says ∙ sym (ap run_reply (answer_sound K p s (calls.run b) e));
       leaves = left ∙ sym (call_sound K p s (calls.run b) e);
-      notes = c.steps-up-to-made.ensures.notes;
+      notes = c.steps_up_to-made.ensures.notes;
       pile = same;
     }

@@ -13,6 +13,6 @@ returns g c =
     let x = c.args.self.now in
     let p = g.P.Case.meaning x.pile in
     record {
-      answers = c.tally-on.ensures;
+      answers = c.tally_on.ensures;
       history = made_by K g.met.K.Charge.laws p (g.P.Case.limits x.pile) x x calls.tally (read_stays K p (stands K p x) calls.tally refl) (λ h. h);
     }

@@ -7,7 +7,7 @@ pub returns : goal.returns
 returns g c =
     let p = g.P.Case.meaning c.args.self.now.pile in
     record {
-      answers = c.withdraw-on.ensures.answers;
-      history = made_by (kind_of g.K.Charge) g.met.K.Charge.laws p (g.P.Case.limits c.args.self.now.pile) c.args.self.now c.withdraw-on.new.self (calls.withdraw) c.withdraw-on.ensures.leaves c.withdraw-on.ensures.notes;
-      pile = c.withdraw-on.ensures.pile;
+      answers = c.withdraw_on.ensures.answers;
+      history = made_by (kind_of g.K.Charge) g.met.K.Charge.laws p (g.P.Case.limits c.args.self.now.pile) c.args.self.now c.withdraw_on.new.self (calls.withdraw) c.withdraw_on.ensures.leaves c.withdraw_on.ensures.notes;
+      pile = c.withdraw_on.ensures.pile;
     }

@@ -11,15 +11,15 @@ use Rattle.search.specs.Stands.{stands}
 use Rattle.search.proofs.Checking.{withdraw_accepted, withdraw_refused, withdraw_done}
 use Rattle.search.proofs.search.Search.withdraw_on.Goals as goal
 
-pub returns-in-err-check-withdraw : goal.returns-in-err-check-withdraw
-returns-in-err-check-withdraw g c =
+pub returns-in_err-check_withdraw : goal.returns-in_err-check_withdraw
+returns-in_err-check_withdraw g c =
     let K = kind_of g.K.Charge in
     let x = c.args.self.now in
     let p = g.P.Case.meaning x.pile in
-    let q = err_from_is_err_and c.from-residual.result c.from-residual.ensures.1 in
+    let q = err_from_is_err_and c.from_residual.result c.from_residual.ensures.1 in
     record {
-      answers = q.1 ∙ ap Err q.2 ∙ c.in-err-check-withdraw.ensures;
-      leaves = sym (withdraw_refused K p (stands K p x) c.in-err-check-withdraw.field-0.0 c.in-err-check-withdraw.ensures);
+      answers = q.1 ∙ ap Err q.2 ∙ c.in_err-check_withdraw.ensures;
+      leaves = sym (withdraw_refused K p (stands K p x) c.in_err-check_withdraw.field-0.0 c.in_err-check_withdraw.ensures);
       notes = λ h. h;
       pile = refl;
     }
@@ -31,13 +31,13 @@ returns g c =
     let x = c.args.self.now in
     let p = g.P.Case.meaning x.pile in
     let s = stands K p x in
-    let ok = c.in-ok-check-withdraw.ensures in
+    let ok = c.in_ok-check_withdraw.ensures in
     let w = withdraw_accepted K p s ok in
     record {
       answers = ok;
       leaves =
           ap (state K (contents p).options x.best) c.restart.ensures.leaves
-          ∙ ap₂ {C = State K} (λ (cs : List (List ℕ)) (ls : List Literals). restarted {K = K} cs s.best ls) c.let-go.ensures (ap rules_learned c.clear.ensures)
+          ∙ ap₂ {C = State K} (λ (cs : List (List ℕ)) (ls : List Literals). restarted {K = K} cs s.best ls) c.let_go.ensures (ap rules_learned c.clear.ensures)
           ∙ sym (withdraw_done K p s w.0 w.1);
       notes = λ _. c.restart.ensures.notes _;
       pile = refl;

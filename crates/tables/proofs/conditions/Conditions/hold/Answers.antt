@@ -6,24 +6,24 @@ use Rattle.tables.proofs.Facts.{len_conditions}
 use Rattle.tables.proofs.Held.{front_push}
 use Rattle.tables.proofs.conditions.Conditions.hold.Goals as goal
 use Rattle.tables.proofs.conditions.Conditions.hold.Goals.{
-  then-at-ge-MOST-CONDITIONS-via-then-at-ge-MOST-CONDITIONS,
-  then-at-ge-MOST-CONDITIONS-via-else-at-ge-MOST-CONDITIONS+then-literals-gt-LONGEST-CONDITION,
-  then-at-ge-MOST-CONDITIONS-via-else-at-ge-MOST-CONDITIONS+else-literals-gt-LONGEST-CONDITION+then-past-all,
+  then-at-ge-MOST_CONDITIONS-via-then-at-ge-MOST_CONDITIONS,
+  then-at-ge-MOST_CONDITIONS-via-else-at-ge-MOST_CONDITIONS+then-literals-gt-LONGEST_CONDITION,
+  then-at-ge-MOST_CONDITIONS-via-else-at-ge-MOST_CONDITIONS+else-literals-gt-LONGEST_CONDITION+then-past_all,
 }
 
-pub returns-then-at-ge-MOST-CONDITIONS : goal.returns-then-at-ge-MOST-CONDITIONS
-returns-then-at-ge-MOST-CONDITIONS c =
+pub returns-then-at-ge-MOST_CONDITIONS : goal.returns-then-at-ge-MOST_CONDITIONS
+returns-then-at-ge-MOST_CONDITIONS c =
     let cs = conditions_of c.args.self.now in
     let xs = c.args.literals.now in
     let e = len_conditions c.args.self.now in
     record {
       answers =
           sym
-          (elim c.then-at-ge-MOST-CONDITIONS.branch [
-            | then-at-ge-MOST-CONDITIONS-via-then-at-ge-MOST-CONDITIONS w ↦ and_left (ltb (length cs) 32) _ (le-ltb (length cs) 32 (omega arith))
-            | then-at-ge-MOST-CONDITIONS-via-else-at-ge-MOST-CONDITIONS+then-literals-gt-LONGEST-CONDITION w ↦
+          (elim c.then-at-ge-MOST_CONDITIONS.branch [
+            | then-at-ge-MOST_CONDITIONS-via-then-at-ge-MOST_CONDITIONS w ↦ and_left (ltb (length cs) 32) _ (le-ltb (length cs) 32 (omega arith))
+            | then-at-ge-MOST_CONDITIONS-via-else-at-ge-MOST_CONDITIONS+then-literals-gt-LONGEST_CONDITION w ↦
                 and_right (ltb (length cs) 32) _ (and_left (leb (length xs) 16) _ (lt-leb (length xs) 16 (omega arith)))
-            | then-at-ge-MOST-CONDITIONS-via-else-at-ge-MOST-CONDITIONS+else-literals-gt-LONGEST-CONDITION+then-past-all w ↦
+            | then-at-ge-MOST_CONDITIONS-via-else-at-ge-MOST_CONDITIONS+else-literals-gt-LONGEST_CONDITION+then-past_all w ↦
                 and_right (ltb (length cs) 32) _ (and_right (leb (length xs) 16) _ (lt-leb (past_all xs) 128 (omega (arith, w.past_all.ensures))))
           ]);
       leaves = refl;

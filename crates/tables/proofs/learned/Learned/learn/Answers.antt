@@ -5,8 +5,8 @@ use Rattle.tables.proofs.Facts.{len_rows}
 use Rattle.tables.proofs.Rows.{front_push}
 use Rattle.tables.proofs.learned.Learned.learn.Goals as goal
 
-pub returns-then-at-ge-MOST-ROWS : goal.returns-then-at-ge-MOST-ROWS
-returns-then-at-ge-MOST-ROWS c =
+pub returns-then-at-ge-MOST_ROWS : goal.returns-then-at-ge-MOST_ROWS
+returns-then-at-ge-MOST_ROWS c =
     let s = c.args.self.now in
     record { answers = sym (le-ltb (length (rows_of s)) 64 (omega (arith, len_rows s))); leaves = refl }
 

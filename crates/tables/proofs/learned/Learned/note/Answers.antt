@@ -7,4 +7,4 @@ pub returns : goal.returns
 unfolding rows_of
 returns c =
     let s = c.args.self.now in
-    front_noted s.len s.rows c.note-rows.new.rows c.args.reasons.now (omega arith) (omega arith) c.note-rows.ensures
+    front_noted s.len s.rows c.note_rows.new.rows c.args.reasons.now (omega arith) (omega arith) c.note_rows.ensures

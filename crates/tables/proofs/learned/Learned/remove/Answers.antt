@@ -12,4 +12,4 @@ pub returns : goal.returns
 unfolding rows_of
 returns c =
     let s = c.args.self.now in
-    front_removed s.rows c.move-down.new.rows c.args.p s.len (omega arith) (omega arith) (omega arith) c.move-down.ensures.moved c.move-down.ensures.stays
+    front_removed s.rows c.move_down.new.rows c.args.p s.len (omega arith) (omega arith) (omega arith) c.move_down.ensures.moved c.move_down.ensures.stays

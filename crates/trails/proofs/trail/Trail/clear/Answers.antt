@@ -4,27 +4,18 @@ use Rattle.trails.proofs.Entries.{trail_none}
 use Rattle.trails.proofs.Held.{on_empty}
 use Rattle.trails.proofs.trail.Trail.clear.Goals as goal
 
-pub invariant-of-self : goal.invariant-of-self
-invariant-of-self c =
-    let es = c.args.self.now.entries in (
-      omega arith,
-      (
-        c.args.self.now.places,
-        (
-          λ x. c.empty-self.ensures x ∙ sym (on_empty es x),
-          (
-            λ x. c.empty-self-2.ensures x ∙ sym (on_empty es (complement x)),
-            (
-              λ k h. absurd (omega arith),
-              (
-                λ k h. absurd (omega arith),
-                (λ k h. absurd (omega arith), tt),
-              ),
-            ),
-          ),
-        ),
-      ),
-    )
+pub invariant_of-self : goal.invariant_of-self
+invariant_of-self c =
+    let es = c.args.self.now.entries in
+    record {
+      low = omega arith;
+      places = c.args.self.now.places;
+      told = λ x. c.empty-self.ensures x ∙ sym (on_empty es x);
+      opposed = λ x. c.empty-self-2.ensures x ∙ sym (on_empty es (complement x));
+      levelled = λ k h. absurd (omega arith);
+      was_unset = λ k h. absurd (omega arith);
+      was_not_false = λ k h. absurd (omega arith);
+    }
 
 pub returns : goal.returns
 returns c = trail_none c.args.self.now.entries

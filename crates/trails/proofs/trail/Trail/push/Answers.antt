@@ -21,48 +21,37 @@ level_opened l k r t h = h
 pub listed : goal.listed
 listed c =
     let t = c.args.self.now in
-    omega (arith, room t c.args.literal c.if-not-can-join.ensures, t.places)
+    omega (arith, room t c.args.literal c.if-not-can_join.ensures, t.places)
 
 pub bounds-self-at : goal.bounds-self-at
-bounds-self-at c = room c.args.self.now c.args.literal c.if-not-can-join.ensures
+bounds-self-at c = room c.args.self.now c.args.literal c.if-not-can_join.ensures
 
-pub invariant-of-self-2 : goal.invariant-of-self-2
-invariant-of-self-2 c =
+pub invariant_of-self-2 : goal.invariant_of-self-2
+invariant_of-self-2 c =
     let t = c.args.self.now in
     let es = t.entries in
     let n = t.height in
-    let fits : n < 56 = room t c.args.literal c.if-not-can-join.ensures in
-    let free = place_parts (specs.listed t) c.args.literal (sym c.if-not-can-join.ensures) in
-    let inside : n < length es = omega (arith, t.places) in (
-      omega arith,
-      (
-        length-set es n _ ∙ t.places,
-        (
-          λ x. c.insert.ensures x ∙ told_later es n _ inside (member t.set) x (t.told x),
-          (
-            λ x. c.insert-2.ensures x ∙ opposed_later es n _ inside (member t.against) x c.opposite.result c.opposite.ensures (t.opposed x),
-            (
-              levels_later es n _ inside t.levelled
-                  (level_opened c.args.literal c.opens-level.result (reason_of c.args.reason) (specs.listed t)
-                  (c.opens-level.ensures ∙ ap (calculus.opened (reason_of c.args.reason)) c.level.ensures.answers)),
-              (
-                later es n _ inside (λ (e : Entry) (r : calculus.Trail). calculus.on r e.literal ≡ false) t.was_unset free.2,
-                (later es n _ inside (λ (e : Entry) (r : calculus.Trail). calculus.on r (complement e.literal) ≡ false) t.was_not_false free.3, tt),
-              ),
-            ),
-          ),
-        ),
-      ),
-    )
+    let fits : n < 56 = room t c.args.literal c.if-not-can_join.ensures in
+    let free = place_parts (specs.listed t) c.args.literal (sym c.if-not-can_join.ensures) in
+    let inside : n < length es = omega (arith, t.places) in
+    record {
+      low = omega arith;
+      places = length-set es n _ ∙ t.places;
+      told = λ x. c.insert.ensures x ∙ told_later es n _ inside (member t.set) x (t.told x);
+      opposed = λ x. c.insert-2.ensures x ∙ opposed_later es n _ inside (member t.against) x c.opposite.result c.opposite.ensures (t.opposed x);
+      levelled = levels_later es n _ inside t.levelled (level_opened c.args.literal c.opens-level.result (reason_of c.args.reason) (specs.listed t) (c.opens-level.ensures ∙ ap (calculus.opened (reason_of c.args.reason)) c.level.ensures.answers));
+      was_unset = later es n _ inside (λ (e : Entry) (r : calculus.Trail). calculus.on r e.literal ≡ false) t.was_unset free.2;
+      was_not_false = later es n _ inside (λ (e : Entry) (r : calculus.Trail). calculus.on r (complement e.literal) ≡ false) t.was_not_false free.3;
+    }
 
 pub returns : goal.returns
 returns c =
     let t = c.args.self.now in
     let es = t.entries in
     let n = t.height in
-    let inside : n < length es = omega (arith, room t c.args.literal c.if-not-can-join.ensures, t.places) in
+    let inside : n < length es = omega (arith, room t c.args.literal c.if-not-can_join.ensures, t.places) in
     record {
-      answers = c.if-not-can-join.ensures;
+      answers = c.if-not-can_join.ensures;
       leaves =
           ap (trail_of _) (add-one n) ∙ trail_push es n _ inside
           ∙ ap (λ (k : ℕ). record { literal = c.args.literal; level = k; reason = reason_of c.args.reason } ∷ trail_of es n)

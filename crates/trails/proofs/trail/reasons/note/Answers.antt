@@ -15,10 +15,10 @@ noted xs place base j h l =
     (λ (q : j ≡ place - base → ⊥). rw (ne_eqb place (base + j) (λ z. q (omega arith))) (get_or-set_other xs (place - base) j true false q))
     (cases_eq j (place - base))
 
-pub returns-in-default : goal.returns-in-default
+pub returns-in_default : goal.returns-in_default
 unfolding is_place
-returns-in-default c j h =
-    sym (ap (λ (r : Reason). is_place (reason_of r) (c.args.base + j) || get_or c.args.named.now j false) c.in-default.is)
+returns-in_default c j h =
+    sym (ap (λ (r : Reason). is_place (reason_of r) (c.args.base + j) || get_or c.args.named.now j false) c.in_default.is)
 
 pub returns-then-place-base-2 : goal.returns-then-place-base-2
 unfolding is_place
