@@ -4,7 +4,8 @@ use casefile::file::FileCase;
 use cases::case::Case;
 use charges::kinds::Sum;
 use layers::tariff::Tariff;
-use search::search::{Search, Verdict};
+use search::search::Search;
+use search::verdict::Verdict;
 use std::io;
 use terminal::{BUFFER, fill};
 
