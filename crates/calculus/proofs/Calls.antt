@@ -14,7 +14,7 @@ use Rattle.charges.specs.Charges.{charge}
 use Rattle.charges.specs.Kinds.{Kind, Laws}
 use Rattle.calculus.specs.Scans.{all_but_last}
 use Rattle.calculus.specs.States.{State, restarted, Best, in_force, fresh}
-use Rattle.calculus.specs.Learned.{moved, most_rows}
+use Rattle.calculus.specs.Learned.{most_rows}
 use Rattle.calculus.specs.Priority.{Chain, conflicts_of, stays, goes, is_conflict}
 use Rattle.calculus.specs.Steps.{closed, step}
 use Rattle.calculus.specs.Runs.{run_steps, steps_made}

@@ -1,8 +1,8 @@
 -- What each of the eight rules makes of a state keeps the invariant, from the invariant, the laws of the kind and the limits of the pile.
-use Rattle.std.proofs.Common.{◌≡◌, ℕ, suc, ◌+◌, ◌*◌, ◌<◌, ◌≤◌, Bool, true, false, cond, not, ◌&&◌, eqb, List, [], ◌∷◌, ◌++◌, map, length, get_or, sym, refl, ap, ◌∙◌, subst, ⊎_elim, append_assoc, arith, length-append, pow_mono}
+use Rattle.std.proofs.Common.{◌≡◌, ℕ, suc, ◌+◌, ◌*◌, ◌<◌, ◌≤◌, true, false, not, ◌&&◌, eqb, List, [], ◌∷◌, ◌++◌, map, length, get_or, sym, refl, ap, ◌∙◌, subst, ⊎_elim, append_assoc, arith, length-append, pow_mono}
 use mathlib.Core.Option.{Option, none, some}
 use lib.ListN.{get_or-append, length-map}
-use Rattle.std.proofs.lemmas.Bool.{both_ways, cases_Bool, or_cases, and_parts, not-true, not-false, cases_lt, eqb-true, eqb-false}
+use Rattle.std.proofs.lemmas.Bool.{both_ways, cases_Bool, or_cases, and_parts, not-true, cases_lt, eqb-true, eqb-false}
 use Rattle.cases.specs.Meanings.{Sound, sound}
 use Rattle.cases.specs.Literals.{Literals, complement, members}
 use Rattle.cases.specs.Choices.{keeps_all, sets}
@@ -17,7 +17,6 @@ use Rattle.calculus.specs.States.{up, most, clause, State, in_force, clauses, Be
 use Rattle.calculus.specs.Learned.{is_reason, renamed, leaving}
 use Rattle.calculus.specs.Changes.{resolved, conflicted, choice_of, improved, best_of, pushed, popped, backtracked, complements}
 use Rattle.calculus.specs.Calculus.{Reasoned, FalseBut, Because, FalseUnder, Asserts, Free}
-use Rattle.calculus.specs.Priority.{goes}
 use Rattle.calculus.specs.Steps.{others, best_not_above}
 use Rattle.calculus.specs.Examples.{rows}
 use Rattle.calculus.proofs.Scans.{get_d_remove_below, get_d_remove_above, length-remove, remove_past, remove-append, some_same, none_some, bit_le}

@@ -3,7 +3,6 @@ use Rattle.std.proofs.Common.{◌≡◌, Bool, true, false, cond, List, [], ◌�
 use Rattle.cases.specs.Limits.{Limited}
 use Rattle.cases.specs.Meanings.{Meaning, sound, oversize, is_oversize}
 use Rattle.cases.specs.declared.refusal.Refusal.TheVariants.{Oversize}
-use Rattle.cases.specs.Choices.{keeps}
 use Rattle.charges.specs.Charges.{contents}
 use Rattle.charges.specs.Kinds.{Kind, Laws}
 use Rattle.calculus.specs.States.{State, fresh}

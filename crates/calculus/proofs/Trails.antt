@@ -1,6 +1,6 @@
 -- Trails, from their definition: no option twice, levels, cutting, and how a trail counts the conflicts that can still come.
 use Rattle.std.proofs.Common.{◌≡◌, ℕ, zero, suc, ◌+◌, ◌-◌, ◌*◌, ◌/◌, ◌%◌, ◌^◌, ◌<◌, ◌≤◌, Bool, true, false, not, ◌&&◌, eqb, leb, [], ◌∷◌, length, sym, refl, ap, ◌∙◌, subst, ⊎_elim, arith, pow_pos}
-use Rattle.std.proofs.lemmas.Bool.{both_ways, cases_Bool, or_cases, or_left, or_right, or_from, and_parts, and_from, and_left, not-true, not-false, true≢false, cases_lt, leb-true, leb-false, eqb-true, eq-eqb, ne_eqb, le-leb, lt-leb, cond_both}
+use Rattle.std.proofs.lemmas.Bool.{both_ways, cases_Bool, or_cases, or_left, or_right, or_from, and_parts, and_from, and_left, not-true, true≢false, cases_lt, leb-true, leb-false, eqb-true, eq-eqb, ne_eqb, le-leb, lt-leb, cond_both}
 use Rattle.cases.specs.Literals.{complement, Literals}
 use Rattle.calculus.specs.Scans.{count}
 use Rattle.calculus.specs.Trails.{Trail, on, unset, Entry, decided, Reason, opened, forced, Levelled, level_of, level, cut}

@@ -11,7 +11,7 @@ use Rattle.casefile.specs.declared.fault.Fault.{Fault}
 use Rattle.casefile.specs.declared.fault.Fault.TheVariants.{Truncated, UnknownTag, WrongLength, OutOfOrder, TooManyOptions, NoSuchLiteral, NotRising, ZeroAmount, TooManyRules, Trailing}
 use Rattle.casefile.specs.Format.{tag, size, known, takes, phase_after, fits, past_end}
 use Rattle.casefile.specs.Files.{options_in, literal_in, amount_in, rule_in, below, Check, checks, first_found, raised, known_after, finished, Outcome, accepted, refused, unless, judge_from, blank, parse}
-use Rattle.casefile.specs.Fields.{options, gave, gave_nothing, faulty, after, content, body, field_at}
+use Rattle.casefile.specs.Fields.{gave, gave_nothing, faulty, after, content, body, field_at}
 use Rattle.casefile.specs.Inner.Scanning.{judged, closed, step, scan_from, scan}
 
 abbrev tail : List Check → List Check

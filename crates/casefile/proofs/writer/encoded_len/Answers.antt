@@ -1,4 +1,4 @@
-use Rattle.std.proofs.Common.{◌+◌, [], ◌++◌, arith}
+use Rattle.std.proofs.Common.{[], ◌++◌, arith}
 use Rattle.std.proofs.lemmas.List.{length-append}
 use Rattle.cases.specs.Meanings.{options_of, amounts_of, rules_of}
 use Rattle.casefile.specs.Bytes.{field, options_field, amount_fields, rule_fields}
