@@ -4,6 +4,4 @@ pub mod Charges
 pub mod SumKind
 pub mod WorstKind
 pub mod RankedKind
-pub mod RankedLaws
-pub mod Same
-pub mod NumberLaws
+pub mod Facts

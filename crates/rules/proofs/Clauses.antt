@@ -1,10 +1,10 @@
 -- The rules in force and the learned ones, place by place, from where they stand: in the pile, among the conditions, in the
 -- learned table.
-use Rattle.std.proofs.Common.{◌≡◌, ℕ, ◌+◌, ◌-◌, ◌*◌, ◌<◌, ◌≤◌, Bool, true, false, ◌&&◌, ◌||◌, eqb, ltb, List, [], ◌∷◌, ◌++◌, map, length, get_or, take, sym, refl, ap, ◌∙◌, subst, ap₂, ⊎_elim, arith, length-append}
+use Rattle.std.proofs.Common.{◌≡◌, ℕ, ◌+◌, ◌-◌, ◌<◌, ◌≤◌, Bool, true, false, ◌&&◌, ◌||◌, eqb, ltb, List, [], ◌∷◌, ◌++◌, map, length, get_or, take, sym, refl, ap, ◌∙◌, ap₂, ⊎_elim, arith, length-append}
 use lib.ListN.{length-map, get_or-append}
 use Rattle.std.proofs.lemmas.Bool.{cases_eq, eq-eqb, ne_eqb, lt-ltb}
 use Rattle.std.proofs.lemmas.List.{get_or-map, take_more, get_or_append_left, get_or-append_right}
-use Rattle.cases.specs.Literals.{Literals, members}
+use Rattle.cases.specs.Literals.{members}
 use Rattle.cases.specs.Meanings.{Meaning}
 use Rattle.charges.specs.Charges.{contents}
 use Rattle.calculus.specs.States.{clause}

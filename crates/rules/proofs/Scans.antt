@@ -1,13 +1,13 @@
 -- What a look at a rule, place by place or as a set, tells of the literals that it has in a set; and the first of all rules that
 -- passes a test, from the first of those in force and the first of the learned ones.
-use Rattle.std.proofs.Common.{◌≡◌, ℕ, ◌+◌, ◌-◌, ◌<◌, ◌≤◌, Bool, true, false, not, ◌&&◌, eqb, ◌⊎◌, List, [], ◌∷◌, length, get_or, sym, refl, ap, ◌∙◌, subst, inl, inr, ⊎_elim, arith}
+use Rattle.std.proofs.Common.{◌≡◌, ℕ, ◌+◌, ◌-◌, ◌<◌, ◌≤◌, Bool, true, false, not, ◌&&◌, eqb, List, [], length, get_or, sym, refl, ap, ◌∙◌, subst, ⊎_elim, arith}
 use mathlib.Core.Option as core
 use Rattle.std.proofs.lemmas.Bool.{both_ways, cases_Bool, cases_lt, cases_eq, and_parts, and_from, and_left, and_right, eq-eqb, ne_eqb, eqb-true}
 use Rattle.cases.specs.Literals.{Literals, members}
 use Rattle.cases.specs.Meanings.{Meaning}
 use Rattle.calculus.specs.Scans.{any, first, count, place}
 use Rattle.calculus.specs.States.{clause}
-use Rattle.calculus.proofs.Scans.{any_yes, any_no, any_some, count_one, count_only, count_none}
+use Rattle.calculus.proofs.Scans.{any_yes, any_no, any_some, count_one, count_only}
 use Rattle.calculus.proofs.Loops.{place_here, place_nowhere}
 use Rattle.calculus.proofs.Rules.{members_at, members_place}
 use Rattle.tables.specs.declared.conditions.Conditions.{Conditions}

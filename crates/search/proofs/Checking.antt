@@ -1,7 +1,7 @@
 -- The checks of a condition and of a withdrawal, by what the code finds; and what a refused and an accepted one mean.
-use Rattle.std.proofs.Common.{◌≡◌, ℕ, ◌*◌, ◌<◌, ◌≤◌, Bool, true, false, cond, not, ◌&&◌, ltb, leb, List, [], ◌∷◌, length, Ok, Err, Result, sym, refl, ap, ◌∙◌, subst, ⊎_elim, arith}
+use Rattle.std.proofs.Common.{◌≡◌, ℕ, ◌*◌, ◌<◌, ◌≤◌, Bool, true, false, ◌&&◌, ltb, leb, List, [], ◌∷◌, length, Ok, Err, Result, sym, refl, ap, ◌∙◌, ⊎_elim, arith}
 use mathlib.Core.Option as core
-use Rattle.std.proofs.lemmas.Bool.{both_ways, cases_Bool, and_parts, and_from, and_left, and_right, lt-ltb, le-ltb, ltb-true, ltb-false, le-leb, lt-leb, leb-false, not-false}
+use Rattle.std.proofs.lemmas.Bool.{both_ways, cases_Bool, and_parts, and_from, lt-ltb, le-ltb, ltb-true, ltb-false, le-leb, lt-leb, leb-false}
 use Rattle.cases.specs.Meanings.{Meaning, Sound, is_oversize}
 use Rattle.cases.specs.declared.refusal.Refusal.{Refusal}
 use Rattle.cases.specs.declared.refusal.Refusal.TheVariants.{Oversize, Full, NothingToWithdraw, TooLong, NoSuchLiteral}

@@ -1,5 +1,5 @@
 -- A call that leaves what the definition says, and the notes of the rows right, continues every list of calls.
-use Rattle.std.proofs.Common.{◌≡◌, List, [], ◌∷◌, ◌++◌, sym, subst}
+use Rattle.std.proofs.Common.{◌≡◌, List, sym, subst}
 use Rattle.cases.specs.Meanings.{Meaning}
 use Rattle.cases.specs.Limits.{Limited}
 use Rattle.charges.specs.Kinds.{Kind, Laws}
@@ -7,7 +7,7 @@ use Rattle.charges.specs.Charges.{contents}
 use Rattle.calculus.specs.States.{State}
 use Rattle.calculus.specs.Calls.{Call}
 use Rattle.calculus.specs.Promises.{Promises}
-use Rattle.calculus.specs.Piles.{call_on, after, book}
+use Rattle.calculus.specs.Piles.{call_on, book}
 use Rattle.calculus.proofs.Piles.{continues, promises_after}
 use Rattle.steps.specs.States.{NotedRight}
 use Rattle.search.specs.declared.search.Search.{Search}

@@ -1,5 +1,5 @@
 -- What a call answers, from the answer of the definition.
-use Rattle.std.specs.Prelude.{ℕ, Bool, List, Ok, Err, Result}
+use Rattle.std.specs.Prelude.{ℕ, Ok, Err, Result}
 use Rattle.cases.specs.declared.refusal.Refusal.{Refusal}
 use Rattle.charges.specs.Kinds.{Kind}
 use Rattle.calculus.specs.Runs as runs

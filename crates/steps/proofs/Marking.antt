@@ -1,7 +1,7 @@
 -- The notes of the rows stay right: when a literal joins or goes, when all are made anew, when a row leaves or is learned.
-use Rattle.std.proofs.Common.{◌≡◌, ℕ, zero, suc, ◌+◌, ◌-◌, ◌<◌, ◌≤◌, Bool, true, false, cond, not, ◌||◌, eqb, ltb, leb, List, [], ◌∷◌, ◌++◌, length, get_or, sym, refl, ap, ◌∙◌, subst, ⊎_elim, arith}
-use Rattle.std.proofs.lemmas.Bool.{both_ways, cases_Bool, cases_lt, cases_eq, or_from, or_left, or_right, or_cases, eq-eqb, ne_eqb, eqb-true, le-leb, lt-leb, lt-ltb, le-ltb}
-use Rattle.calculus.specs.Scans.{first, remove}
+use Rattle.std.proofs.Common.{◌≡◌, ℕ, zero, suc, ◌+◌, ◌-◌, ◌<◌, ◌≤◌, Bool, true, false, ◌||◌, eqb, List, [], ◌∷◌, ◌++◌, length, get_or, sym, refl, ap, ◌∙◌, subst, ⊎_elim, arith}
+use Rattle.std.proofs.lemmas.Bool.{both_ways, cases_Bool, cases_lt, cases_eq, or_left, eq-eqb, ne_eqb, eqb-true, le-leb, lt-leb, lt-ltb, le-ltb}
+use Rattle.calculus.specs.Scans.{remove}
 use Rattle.calculus.specs.Trails.{Reason, decided, forced, Entry, Trail}
 use Rattle.calculus.specs.Learned.{is_place, is_reason, moved, renamed}
 use Rattle.calculus.proofs.Scans.{length-remove, remove_past, get_d_remove_below, get_d_remove_above}

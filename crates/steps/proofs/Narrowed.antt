@@ -1,17 +1,17 @@
 -- Tests over all literals that a set tells apart, narrowed to the literals of a case: what the scans find is what the definition
 -- asks for.
-use Rattle.std.proofs.Common.{◌≡◌, ℕ, zero, suc, ◌+◌, ◌-◌, ◌*◌, ◌/◌, ◌<◌, ◌≤◌, Bool, true, false, not, ◌&&◌, eqb, ltb, leb, sym, refl, ap, ◌∙◌, subst, ap₂, ⊎_elim, arith}
+use Rattle.std.proofs.Common.{◌≡◌, ℕ, ◌+◌, ◌*◌, ◌/◌, ◌<◌, ◌≤◌, Bool, true, false, not, ◌&&◌, eqb, ltb, leb, sym, refl, ap, ◌∙◌, subst, ap₂, ⊎_elim, arith}
 use mathlib.Core.Path.{fun_ext}
-use Rattle.std.proofs.lemmas.Bool.{both_ways, cases_Bool, cases_lt, cases_eq, and_parts, and_from, and_left, and_right, not-true, not-false, eq-eqb, ne_eqb, eqb-true, lt-ltb, le-ltb, ltb-true, le-leb, lt-leb}
+use Rattle.std.proofs.lemmas.Bool.{both_ways, cases_Bool, cases_lt, cases_eq, and_parts, and_from, and_left, and_right, eq-eqb, ne_eqb, eqb-true, lt-ltb, le-ltb, le-leb, lt-leb}
 use Rattle.cases.specs.Literals.{Literals, complement}
 use Rattle.calculus.specs.Scans.{any, first, count, greatest}
 use Rattle.calculus.specs.Trails.{Trail, on, unset, level, level_of}
 use Rattle.calculus.specs.Calculus.{Free, LowestUnset}
-use Rattle.calculus.specs.Steps.{alive, is_false, is_unit, at_level, can_backtrack, others}
-use Rattle.calculus.proofs.Scans.{any_yes, any_no, any_some, first_yes, count_one, count_only, count_same, greatest_above, greatest_reached}
+use Rattle.calculus.specs.Steps.{alive, is_false, is_unit, at_level, can_backtrack}
+use Rattle.calculus.proofs.Scans.{any_yes, any_no, any_some, count_one, count_only, greatest_above, greatest_reached}
 use Rattle.calculus.proofs.Loops.{first_here}
 use Rattle.calculus.proofs.Tests.{unit_forces}
-use Rattle.calculus.proofs.Literals.{complement_twice, complement_on, complement_off}
+use Rattle.calculus.proofs.Literals.{complement_on, complement_off}
 use Rattle.rules.specs.Scans.{span, within, misses, forces}
 
 -- p is q below n, and false past it

@@ -1,10 +1,10 @@
 -- Backtrack finds its places: the row that leaves, room for the row that is learned, and room on the trail for its literal.
-use Rattle.std.proofs.Common.{◌≡◌, ℕ, zero, suc, ◌+◌, ◌*◌, ◌<◌, ◌≤◌, Bool, true, false, cond, not, ◌&&◌, eqb, ltb, leb, List, [], ◌∷◌, length, get_or, sym, refl, ap, ◌∙◌, subst, ⊎_elim, arith}
-use Rattle.std.proofs.lemmas.Bool.{both_ways, cases_Bool, cases_lt, and_from, or_from, or_parts, not-true, ne_eqb, eqb-true, le-leb, lt-leb, lt-ltb, le-ltb, leb-true, leb-false, cond_both}
+use Rattle.std.proofs.Common.{◌≡◌, ℕ, zero, suc, ◌+◌, ◌*◌, ◌<◌, ◌≤◌, Bool, true, false, cond, not, eqb, ltb, leb, List, [], ◌∷◌, length, get_or, refl, ap, subst, ⊎_elim, arith}
+use Rattle.std.proofs.lemmas.Bool.{both_ways, cases_Bool, or_parts, not-true, lt-leb, lt-ltb, le-ltb, leb-true, leb-false, cond_both}
 use Rattle.cases.specs.Literals.{Literals, complement}
 use Rattle.calculus.specs.Scans.{first, remove, greatest}
 use Rattle.calculus.specs.Trails.{Trail, on, level, level_of, cut, Levelled}
-use Rattle.calculus.specs.Learned.{is_reason, leaving, most_rows, renamed}
+use Rattle.calculus.specs.Learned.{is_reason, leaving, renamed}
 use Rattle.calculus.specs.Calculus.{Asserts, Free}
 use Rattle.calculus.specs.Steps.{at_level, can_backtrack, others}
 use Rattle.calculus.proofs.Scans.{length-remove, remove_past, first_yes, some_fails}

@@ -10,7 +10,7 @@ use Rattle.calculus.specs.Steps.{at_level, can_backtrack}
 use Rattle.literals.specs.declared.LiteralSet.{LiteralSet}
 use Rattle.literals.specs.Members.{member}
 use Rattle.trails.specs.declared.entry.Reason.{Reason}
-use Rattle.trails.specs.Entries.{reason_of, joined, tail_of}
+use Rattle.trails.specs.Entries.{joined, tail_of}
 use Rattle.trails.specs.Trails.{listed}
 use Rattle.tables.specs.Rows.{Noted, nothing_noted, marked}
 use Rattle.tables.specs.Learned.{rows_of, rules_learned}

@@ -1,7 +1,7 @@
 // Ranked as a kind of charge.
 ghost use Rattle.std.specs.Prelude.{◌≡◌, ◌++◌, Some, codes, decimal};
 ghost use Rattle.charges.specs.RankedKind.{ranked_of, ranked_kind};
-ghost use Rattle.charges.specs.RankedLaws.{ranked_laws};
+ghost use Rattle.charges.specs.Facts.RankedLaws.{ranked_laws};
 
 use super::Ranked;
 use crate::charge::Charge;

@@ -1,7 +1,7 @@
 // Sum as a kind of charge.
 ghost use Rattle.std.specs.Prelude.{◌≡◌, Some, decimal};
 ghost use Rattle.charges.specs.SumKind.{sum_of, sum_kind};
-ghost use Rattle.charges.specs.NumberLaws.{sum_laws};
+ghost use Rattle.charges.specs.Facts.NumberLaws.{sum_laws};
 
 use super::Sum;
 use crate::charge::Charge;

@@ -1,7 +1,7 @@
 // Worst as a kind of charge.
 ghost use Rattle.std.specs.Prelude.{◌≡◌, Some, decimal};
 ghost use Rattle.charges.specs.WorstKind.{worst_kind};
-ghost use Rattle.charges.specs.NumberLaws.{worst_laws};
+ghost use Rattle.charges.specs.Facts.NumberLaws.{worst_laws};
 
 use super::Worst;
 use crate::charge::Charge;

@@ -1,4 +1,4 @@
-use Rattle.std.proofs.Common.{◌≡◌, ℕ, ◌^◌, ◌<◌, ap, ◌∙◌, arith}
+use Rattle.std.proofs.Common.{ℕ, ap, ◌∙◌, arith}
 use Rattle.literals.specs.Members.{bit_of, member}
 use Rattle.literals.proofs.Digits.{zero_none}
 use Rattle.literals.proofs.Lowest.{trailing}

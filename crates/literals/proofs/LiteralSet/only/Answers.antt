@@ -1,8 +1,7 @@
-use Rattle.std.proofs.Common.{◌≡◌, ℕ, suc, ◌+◌, ◌-◌, ◌*◌, ◌/◌, ◌%◌, ◌^◌, ◌<◌, ◌≤◌, Bool, true, false, not, ◌&&◌, ◌||◌, eqb, sym, refl, ap, ◌∙◌, subst, inl, inr, arith, pow_pos, pow_mono}
-use native.Mathlib.Nat.{zero-div}
+use Rattle.std.proofs.Common.{◌≡◌, ℕ, suc, ◌+◌, ◌-◌, ◌^◌, ◌<◌, ◌≤◌, eqb, sym, ap, ◌∙◌, subst, inl, inr, arith, pow_pos, pow_mono}
 use lib.Count.{count_leading_zeros}
 use lib.Pow.{pow-lt}
-use Rattle.std.proofs.lemmas.Bool.{eq-eqb, eqb-true, cases_order}
+use Rattle.std.proofs.lemmas.Bool.{cases_order}
 use Rattle.std.proofs.lemmas.Nat.{one_shl, leading_top}
 use Rattle.literals.specs.Members.{bit_of, member}
 use Rattle.literals.proofs.Digits.{member_one, same_members}

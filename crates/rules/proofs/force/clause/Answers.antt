@@ -1,4 +1,4 @@
-use Rattle.std.proofs.Common.{◌≡◌, ℕ, ◌-◌, length, get_or, sym, ap, ◌∙◌, arith}
+use Rattle.std.proofs.Common.{ℕ, ◌-◌, get_or, sym, ap, ◌∙◌, arith}
 use Rattle.cases.specs.Literals.{Literals}
 use Rattle.tables.specs.Rows.{nothing_noted}
 use Rattle.tables.specs.Learned.{rows_of}

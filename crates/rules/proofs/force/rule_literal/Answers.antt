@@ -1,4 +1,4 @@
-use Rattle.std.proofs.Common.{◌≡◌, ℕ, ◌-◌, ◌<◌, List, [], length, get_or, sym, ap, ◌∙◌, subst, arith}
+use Rattle.std.proofs.Common.{ℕ, ◌-◌, ◌<◌, List, [], length, get_or, sym, ap, ◌∙◌, subst, arith}
 use Rattle.charges.proofs.Contents.{contents_rules}
 use Rattle.tables.specs.Conditions.{conditions_of}
 use Rattle.rules.proofs.Clauses.{rule_pile, rule_condition}

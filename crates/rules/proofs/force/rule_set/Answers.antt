@@ -1,4 +1,4 @@
-use Rattle.std.proofs.Common.{◌≡◌, ℕ, ◌<◌, Bool, ◌&&◌, ◌||◌, eqb, ltb, List, [], length, get_or, sym, ap, ◌∙◌, ap₂, arith, take_all}
+use Rattle.std.proofs.Common.{ℕ, ◌<◌, Bool, ◌||◌, eqb, List, [], length, get_or, sym, ap, ◌∙◌, ap₂, arith, take_all}
 use Rattle.cases.specs.Literals.{members}
 use Rattle.rules.specs.Force.{rules_in}
 use Rattle.rules.proofs.Clauses.{members_more, members_none, small_here}

@@ -1,6 +1,5 @@
-use Rattle.std.proofs.Common.{◌≡◌, ℕ, ◌+◌, ◌-◌, ◌<◌, ◌≤◌, false, [], length, get_or, Some, sym, ap, ◌∙◌, subst, arith}
-use mathlib.Core.Option as core
-use Rattle.cases.specs.Literals.{Literals, members}
+use Rattle.std.proofs.Common.{◌≡◌, ℕ, ◌+◌, ◌-◌, ◌<◌, length, get_or, Some, sym, ap, ◌∙◌, subst, arith}
+use Rattle.cases.specs.Literals.{Literals}
 use Rattle.calculus.specs.Scans.{first}
 use Rattle.calculus.specs.States.{clause}
 use Rattle.literals.specs.Members.{member}

@@ -1,4 +1,4 @@
-use Rattle.std.proofs.Common.{◌≡◌, ℕ, ◌+◌, sym, ap, ◌∙◌, arith}
+use Rattle.std.proofs.Common.{ℕ, ◌+◌, sym, ap, ◌∙◌, arith}
 use mathlib.Core.Option as core
 use Rattle.literals.specs.Members.{member}
 use Rattle.tables.proofs.Facts.{length-rows}

@@ -1,4 +1,4 @@
-use Rattle.std.proofs.Common.{◌≡◌, ℕ, Bool, true, false, ◌&&◌, get_or, sym, ap, ◌∙◌}
+use Rattle.std.proofs.Common.{Bool, ◌&&◌, get_or, sym, ap, ◌∙◌}
 use Rattle.literals.specs.Members.{member}
 use Rattle.tables.specs.Rows.{nothing_noted}
 use Rattle.tables.specs.Learned.{rows_of}

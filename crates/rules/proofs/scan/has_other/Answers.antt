@@ -1,4 +1,4 @@
-use Rattle.std.proofs.Common.{◌≡◌, ℕ, ◌<◌, ◌≤◌, Bool, true, false, not, ◌&&◌, eqb, [], length, get_or, sym, ap, ◌∙◌, subst, ⊎_elim, arith, below_more}
+use Rattle.std.proofs.Common.{◌≡◌, ℕ, ◌<◌, ◌≤◌, true, not, ◌&&◌, eqb, [], length, get_or, sym, ap, ◌∙◌, subst, ⊎_elim, arith, below_more}
 use Rattle.std.proofs.lemmas.Bool.{both_ways, and_parts, and_from, not-true, eqb-false, ne_eqb, cases_eq}
 use Rattle.literals.specs.Members.{member}
 use Rattle.rules.specs.Force.{rules_in}

@@ -1,5 +1,4 @@
-use Rattle.std.proofs.Common.{◌≡◌, ℕ, ◌<◌, Bool, false, ◌&&◌, length, get_or, sym, ap, ◌∙◌, arith, below_more}
-use Rattle.cases.specs.Literals.{Literals}
+use Rattle.std.proofs.Common.{◌≡◌, Bool, false, ◌&&◌, get_or, ap, ◌∙◌, arith, below_more}
 use Rattle.literals.specs.Members.{member}
 use Rattle.tables.specs.Rows.{nothing_noted}
 use Rattle.tables.specs.Learned.{rows_of}

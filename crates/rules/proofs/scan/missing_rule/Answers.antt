@@ -1,4 +1,4 @@
-use Rattle.std.proofs.Common.{◌≡◌, ℕ, ◌<◌, true, false, [], length, get_or, sym, ap, ◌∙◌, subst, arith, below_more}
+use Rattle.std.proofs.Common.{◌≡◌, ℕ, ◌<◌, false, [], length, get_or, sym, ap, ◌∙◌, subst, arith, below_more}
 use Rattle.cases.specs.Literals.{members}
 use Rattle.literals.specs.Members.{member}
 use Rattle.rules.specs.Force.{rules_in}

@@ -1,4 +1,4 @@
-use Rattle.std.proofs.Common.{◌≡◌, ℕ, ◌<◌, false, [], length, get_or, sym, ap, ◌∙◌, arith, below_more}
+use Rattle.std.proofs.Common.{◌≡◌, false, [], get_or, sym, ap, ◌∙◌, arith, below_more}
 use Rattle.literals.specs.Members.{member}
 use Rattle.rules.specs.Force.{rules_in}
 use Rattle.rules.proofs.scan.place_in.Goals as goal

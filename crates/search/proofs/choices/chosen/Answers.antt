@@ -1,4 +1,4 @@
-use Rattle.std.proofs.Common.{◌≡◌, ℕ, ◌*◌, false, ◌++◌, length, take, drop, replicate, sym, refl, ap, ◌∙◌, arith, length-set}
+use Rattle.std.proofs.Common.{◌≡◌, ℕ, ◌*◌, false, ◌++◌, take, drop, replicate, sym, ap, ◌∙◌, arith, length-set}
 use Rattle.std.proofs.lemmas.List.{take_at}
 use Rattle.cases.specs.Counted.{counted}
 use Rattle.cases.specs.Facts.Counted.{length-counted}

@@ -1,4 +1,4 @@
-use Rattle.std.proofs.Common.{◌≡◌, ℕ, false, List, ◌++◌, length, get_or, drop, sym, refl, ap, ◌∙◌, ap₂, arith}
+use Rattle.std.proofs.Common.{◌≡◌, ℕ, false, List, ◌++◌, length, get_or, drop, sym, ap, ◌∙◌, arith}
 use Rattle.cases.specs.Counted.{counted}
 use Rattle.calculus.specs.Calls.{written}
 use Rattle.layers.proofs.Filling.{fill_turn}

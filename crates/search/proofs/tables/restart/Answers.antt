@@ -1,4 +1,4 @@
-use Rattle.std.proofs.Common.{◌≡◌, ℕ, ◌+◌, ◌<◌, false, List, [], length, get_or, replicate, sym, refl, ap, ◌∙◌, subst, arith}
+use Rattle.std.proofs.Common.{◌≡◌, ℕ, ◌+◌, ◌<◌, false, List, [], length, get_or, replicate, sym, refl, ap, ◌∙◌, arith}
 use Rattle.calculus.specs.Trails.{Trail}
 use Rattle.calculus.specs.Learned.{is_reason}
 use Rattle.tables.specs.Rows.{Noted, nothing_noted}

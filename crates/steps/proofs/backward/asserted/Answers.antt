@@ -1,4 +1,4 @@
-use Rattle.std.proofs.Common.{◌≡◌, ℕ, ◌*◌, ◌<◌, ◌≤◌, Bool, true, false, not, ◌&&◌, eqb, ltb, Some, None, Option, sym, refl, ap, ◌∙◌, ap₂, arith, MatchOption}
+use Rattle.std.proofs.Common.{◌≡◌, ℕ, ◌*◌, ◌≤◌, Bool, ◌&&◌, eqb, ltb, Some, None, Option, sym, ap, ◌∙◌, ap₂, arith, MatchOption}
 use Rattle.cases.specs.Literals.{Literals, complement}
 use Rattle.charges.specs.Charges.{contents}
 use Rattle.charges.proofs.Contents.{contents_options}

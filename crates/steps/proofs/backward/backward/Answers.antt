@@ -1,4 +1,4 @@
-use Rattle.std.proofs.Common.{◌≡◌, ℕ, ◌*◌, ◌<◌, ◌≤◌, true, length, sym, refl, ap, ◌∙◌, subst, ap₂, arith}
+use Rattle.std.proofs.Common.{◌≡◌, ℕ, ◌*◌, ◌<◌, ◌≤◌, sym, ap, ◌∙◌, subst, ap₂, arith}
 use Rattle.cases.specs.Literals.{complement}
 use Rattle.charges.specs.Generic.{kind_of}
 use Rattle.charges.specs.Charges.{contents}
@@ -11,7 +11,6 @@ use Rattle.calculus.specs.Steps.{at_level, can_backtrack, others}
 use Rattle.literals.specs.Members.{member}
 use Rattle.trails.specs.Trails.{listed, has_place}
 use Rattle.trails.proofs.Facts.{levelled, apart, few}
-use Rattle.rules.specs.Force.{rules_in}
 use Rattle.steps.specs.Shapes.{shape, backing, Right}
 use Rattle.steps.specs.States.{state, seen}
 use Rattle.steps.proofs.Staged.{backward_yes, backward_no}

@@ -1,4 +1,4 @@
-use Rattle.std.proofs.Common.{◌≡◌, ℕ, Bool, true, false, not, ◌&&◌, ◌||◌, eqb, sym, refl, ap, ◌∙◌, ap₂}
+use Rattle.std.proofs.Common.{◌≡◌, ℕ, Bool, true, false, not, ◌&&◌, ◌||◌, eqb, refl, ap, ◌∙◌, ap₂}
 use Rattle.cases.specs.Literals.{complement}
 use Rattle.calculus.specs.Changes.{resolved}
 use Rattle.calculus.specs.States.{clause}

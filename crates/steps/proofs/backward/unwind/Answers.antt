@@ -1,15 +1,13 @@
-use Rattle.std.proofs.Common.{◌≡◌, ℕ, Bool, true, false, [], ◌∷◌, sym, refl, ap, ◌∙◌, subst, ap₂}
+use Rattle.std.proofs.Common.{ℕ, sym, refl, ap, ◌∙◌, subst}
 use mathlib.Core.Path.{fun_ext}
-use Rattle.cases.specs.Literals.{Literals, complement}
+use Rattle.cases.specs.Literals.{Literals}
 use Rattle.charges.specs.Generic.{kind_of}
 use Rattle.charges.specs.Charges.{contents}
-use Rattle.calculus.specs.Trails.{Trail}
-use Rattle.calculus.specs.States.{clauses, clause, in_force}
-use Rattle.calculus.specs.Changes.{popped, resolved}
+use Rattle.calculus.specs.States.{clauses, in_force}
+use Rattle.calculus.specs.Changes.{popped}
 use Rattle.literals.specs.Members.{member}
 use Rattle.trails.specs.Entries.{entry_of, reason_of, tail_of}
 use Rattle.trails.specs.Trails.{listed}
-use Rattle.rules.specs.Force.{clauses_in}
 use Rattle.steps.specs.Shapes.{shape, popping, Right}
 use Rattle.steps.specs.States.{state, seen}
 use Rattle.steps.proofs.Staged.{back_none, back_skip, back_resolve, back_stay}

@@ -1,4 +1,4 @@
-use Rattle.std.proofs.Common.{◌≡◌, Bool, List, ◌∷◌, sym, refl, ap, ◌∙◌, subst}
+use Rattle.std.proofs.Common.{Bool, List, ◌∷◌, sym, refl, ap, ◌∙◌, subst}
 use Rattle.calculus.specs.Trails.{Trail}
 use Rattle.literals.specs.Members.{member}
 use Rattle.tables.specs.Rows.{Noted}

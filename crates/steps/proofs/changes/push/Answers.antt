@@ -1,10 +1,10 @@
-use Rattle.std.proofs.Common.{◌≡◌, Bool, true, cond, List, sym, refl, ap, ◌∙◌, subst}
+use Rattle.std.proofs.Common.{Bool, true, cond, List, sym, refl, ap, ◌∙◌, subst}
 use Rattle.calculus.specs.Trails.{Trail}
 use Rattle.tables.specs.Rows.{Noted}
 use Rattle.tables.specs.Learned.{rows_of, rules_learned}
 use Rattle.trails.specs.Entries.{joined, reason_of}
-use Rattle.trails.specs.Trails.{listed, has_place}
-use Rattle.steps.specs.Shapes.{Shape, shape, pushing, mark_named}
+use Rattle.trails.specs.Trails.{listed}
+use Rattle.steps.specs.Shapes.{shape, pushing, mark_named}
 use Rattle.steps.proofs.Shaped.{same_shape}
 use Rattle.steps.proofs.Marking.{Notes, notes_push, learned_named}
 use Rattle.steps.proofs.changes.push.Goals as goal

@@ -1,4 +1,4 @@
-use Rattle.std.proofs.Common.{◌≡◌, ℕ, suc, ◌+◌, ◌*◌, ◌<◌, ◌≤◌, Bool, true, false, cond, List, length, get_or, sym, refl, ap, ◌∙◌, subst, ⊎_elim, arith}
+use Rattle.std.proofs.Common.{◌≡◌, ℕ, ◌+◌, ◌*◌, ◌<◌, ◌≤◌, Bool, true, false, cond, List, length, get_or, sym, ap, ◌∙◌, subst, ⊎_elim, arith}
 use mathlib.Core.Option as core
 use Rattle.std.proofs.lemmas.Bool.{cases_lt, cond_both}
 use Rattle.cases.specs.Literals.{Literals}
@@ -8,20 +8,19 @@ use Rattle.charges.specs.Generic.{kind_of}
 use Rattle.charges.specs.Charges.{contents}
 use Rattle.charges.proofs.Contents.{contents_options}
 use Rattle.calculus.specs.Scans.{place, first}
-use Rattle.calculus.specs.Trails.{decided, forced, Trail, level, opened, unset}
-use Rattle.calculus.specs.States.{State, clauses, clause, in_force}
+use Rattle.calculus.specs.Trails.{Trail, opened}
+use Rattle.calculus.specs.States.{clauses, clause, in_force}
 use Rattle.calculus.specs.Changes.{pushed, decision}
 use Rattle.calculus.specs.Calculus.{Free}
-use Rattle.calculus.specs.Steps.{is_unit, alive, extend_in}
+use Rattle.calculus.specs.Steps.{is_unit, alive}
 use Rattle.calculus.proofs.Scans.{place_some}
 use Rattle.calculus.proofs.Tests.{option_free}
 use Rattle.literals.specs.Members.{member}
 use Rattle.trails.specs.declared.entry.Reason.TheVariants.{Decided, Forced}
-use Rattle.trails.specs.declared.entry.Reason.{Reason}
-use Rattle.trails.specs.Trails.{listed, has_place}
+use Rattle.trails.specs.Trails.{listed}
 use Rattle.rules.specs.Force.{clauses_in}
-use Rattle.rules.specs.Scans.{forces, within, span}
-use Rattle.steps.specs.Shapes.{Shape, shape, pushing, Right}
+use Rattle.rules.specs.Scans.{forces}
+use Rattle.steps.specs.Shapes.{shape, pushing, Right}
 use Rattle.steps.specs.States.{state, seen}
 use Rattle.steps.proofs.Staged.{extend_full, extend_unit, extend_decide}
 use Rattle.steps.proofs.Narrowed.{forces_unit, forced_literal, lowest_first}

@@ -1,12 +1,12 @@
-use Rattle.std.proofs.Common.{◌≡◌, ℕ, ◌*◌, ◌/◌, ◌≤◌, Bool, true, false, not, ◌&&◌, length, Some, None, Option, sym, refl, ap, ◌∙◌, subst, ap₂, arith}
+use Rattle.std.proofs.Common.{◌≡◌, ◌*◌, ◌/◌, ◌≤◌, Bool, false, Some, sym, ap, ◌∙◌, ap₂, arith}
 use mathlib.Core.Path.{fun_ext}
 use mathlib.Core.Option as core
-use Rattle.cases.specs.Literals.{Literals, complement}
+use Rattle.cases.specs.Literals.{Literals}
 use Rattle.charges.specs.Generic.{kind_of}
-use Rattle.charges.specs.Charges.{contents, charge}
+use Rattle.charges.specs.Charges.{contents}
 use Rattle.charges.proofs.Contents.{contents_options}
 use Rattle.calculus.specs.Scans.{any, place}
-use Rattle.calculus.specs.Trails.{Trail, on, unset}
+use Rattle.calculus.specs.Trails.{unset}
 use Rattle.calculus.specs.States.{clauses, in_force}
 use Rattle.calculus.specs.Changes.{conflicted, complements, improved, best_of}
 use Rattle.calculus.specs.Calculus.{LowestUnset}
@@ -14,7 +14,6 @@ use Rattle.calculus.specs.Steps.{is_false}
 use Rattle.literals.specs.Members.{member}
 use Rattle.trails.specs.Trails.{listed}
 use Rattle.rules.specs.Force.{clauses_in}
-use Rattle.rules.specs.Scans.{misses, found}
 use Rattle.steps.specs.Shapes.{Shape, shape, conflicting, improving}
 use Rattle.steps.specs.States.{state, seen}
 use Rattle.steps.proofs.Staged.{forward_false, forward_best, forward_improve, forward_extend}

@@ -1,4 +1,4 @@
-use Rattle.std.proofs.Common.{◌≡◌, ◌+◌, ◌*◌, Bool, cond, not, sym, ap, ◌∙◌, ap₂}
+use Rattle.std.proofs.Common.{◌+◌, ◌*◌, Bool, cond, not, sym, ap, ◌∙◌, ap₂}
 use Rattle.calculus.specs.Changes.{decision}
 use Rattle.steps.proofs.literals_of.decision.Goals as goal
 

@@ -1,4 +1,4 @@
-use Rattle.std.proofs.Common.{◌≡◌, ℕ, ◌*◌, ◌≤◌, Bool, ◌&&◌, Option, sym, ap, ◌∙◌, arith}
+use Rattle.std.proofs.Common.{◌*◌, ◌≤◌, Bool, ◌&&◌, Option, sym, ap, ◌∙◌, arith}
 use Rattle.charges.specs.Charges.{contents}
 use Rattle.charges.proofs.Contents.{contents_options}
 use Rattle.calculus.specs.Steps.{empty_set}

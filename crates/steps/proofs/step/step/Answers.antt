@@ -1,15 +1,13 @@
-use Rattle.std.proofs.Common.{◌≡◌, ℕ, Bool, true, false, not, length, Option, sym, refl, ap, ◌∙◌, subst}
-use mathlib.Core.Option as core
-use Rattle.cases.specs.Literals.{Literals}
+use Rattle.std.proofs.Common.{not, length, Option, sym, ap, ◌∙◌, subst}
 use Rattle.charges.specs.Generic.{kind_of}
 use Rattle.charges.specs.Charges.{contents}
-use Rattle.calculus.specs.Steps.{closed, empty_set, by_conflict}
+use Rattle.calculus.specs.Steps.{closed, by_conflict}
 use Rattle.literals.specs.declared.LiteralSet.{LiteralSet}
 use Rattle.literals.specs.Members.{member}
 use Rattle.tables.specs.declared.conditions.Conditions.{Conditions}
 use Rattle.rules.specs.Force.{rules_in}
 use Rattle.steps.specs.Shapes.{conflict_of, Right}
-use Rattle.steps.specs.States.{seen, NotedRight}
+use Rattle.steps.specs.States.{seen}
 use Rattle.steps.proofs.Staged.{step_closed, step_open, by_some}
 use Rattle.steps.proofs.step.step.Goals as goal
 

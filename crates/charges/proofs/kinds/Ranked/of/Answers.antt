@@ -1,6 +1,6 @@
 use Rattle.std.proofs.Common.{arith}
 use Rattle.charges.specs.RankedKind.{ranked_of}
-use Rattle.charges.specs.Same.{ranked_same}
+use Rattle.charges.specs.Facts.Same.{ranked_same}
 use Rattle.charges.proofs.kinds.Ranked.of.Goals as goal
 
 pub returns : goal.returns

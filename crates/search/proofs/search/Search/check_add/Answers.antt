@@ -1,4 +1,4 @@
-use Rattle.std.proofs.Common.{◌≡◌, ◌*◌, ◌<◌, ◌≤◌, length, sym, ap, ◌∙◌, arith}
+use Rattle.std.proofs.Common.{sym, arith}
 use mathlib.Core.Option as core
 use Rattle.cases.specs.declared.refusal.Refusal.TheVariants.{TooLong, NoSuchLiteral, Full}
 use Rattle.charges.specs.Generic.{kind_of}

@@ -1,4 +1,4 @@
-use Rattle.std.proofs.Common.{◌≡◌, length, sym, ap, ◌∙◌, arith}
+use Rattle.std.proofs.Common.{sym, ◌∙◌}
 use mathlib.Core.Option as core
 use Rattle.cases.specs.declared.refusal.Refusal.TheVariants.{NothingToWithdraw}
 use Rattle.charges.specs.Generic.{kind_of}

@@ -1,9 +1,7 @@
-use Rattle.std.proofs.Common.{◌≡◌, Bool, true, false, List, sym, refl, ap, ◌∙◌}
+use Rattle.std.proofs.Common.{Bool, List, refl, ap, ◌∙◌}
 use mathlib.Core.Option.{none}
 use Rattle.cases.specs.Literals.{Literals}
 use Rattle.charges.specs.Generic.{kind_of}
-use Rattle.calculus.specs.States.{State}
-use Rattle.tables.specs.Rows.{Noted}
 use Rattle.tables.specs.Learned.{rules_learned}
 use Rattle.search.specs.Stands.{stands}
 use Rattle.search.specs.Inner.Changes.{forgetting}

@@ -1,11 +1,11 @@
-use Rattle.std.proofs.Common.{◌≡◌, ℕ, ◌+◌, ◌<◌, [], length, None, sym, refl, ap, ◌∙◌, subst, arith}
+use Rattle.std.proofs.Common.{[], length, None, refl, ap, arith}
 use Rattle.charges.specs.Generic.{kind_of}
 use Rattle.charges.specs.Charges.{contents}
 use Rattle.calculus.specs.States.{fresh, restarted}
 use Rattle.calculus.specs.Piles.{after, calls_on}
-use Rattle.tables.specs.Learned.{rows_of, rules_learned}
+use Rattle.tables.specs.Learned.{rows_of}
 use Rattle.tables.proofs.Facts.{length-learned}
-use Rattle.steps.specs.Shapes.{Shape, shape}
+use Rattle.steps.specs.Shapes.{Shape}
 use Rattle.steps.specs.States.{state}
 use Rattle.search.proofs.Led.{promised}
 use Rattle.search.proofs.search.Search.new.Goals as goal

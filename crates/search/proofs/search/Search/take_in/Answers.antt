@@ -1,11 +1,10 @@
-use Rattle.std.proofs.Common.{◌≡◌, ℕ, ◌*◌, ◌≤◌, Bool, true, false, cond, List, [], ◌∷◌, ◌++◌, sym, refl, ap, ◌∙◌, subst, arith}
+use Rattle.std.proofs.Common.{◌≡◌, ℕ, ◌*◌, ◌≤◌, Bool, true, false, cond, List, [], ◌∷◌, ◌++◌, refl, ap, ◌∙◌, arith}
 use Rattle.charges.specs.Kinds.{Kind}
 use Rattle.charges.specs.Generic.{kind_of}
 use Rattle.charges.specs.Charges.{contents}
 use Rattle.charges.proofs.Contents.{contents_options}
 use Rattle.calculus.specs.States.{State, restarted}
 use Rattle.calculus.specs.Calls.{added, breaks}
-use Rattle.tables.specs.declared.conditions.Conditions.{Conditions}
 use Rattle.tables.specs.Conditions.{conditions_of, can_hold}
 use Rattle.steps.specs.States.{state}
 use Rattle.search.specs.Stands.{stands}

@@ -1,4 +1,4 @@
-use Rattle.std.proofs.Common.{◌≡◌, sym, refl, ap, ◌∙◌}
+use Rattle.std.proofs.Common.{sym, ap}
 use Rattle.charges.specs.Generic.{kind_of}
 use Rattle.calculus.specs.Calls as calls
 use Rattle.calculus.proofs.Piles.{answer_oversize, answer_sound}

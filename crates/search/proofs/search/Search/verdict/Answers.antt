@@ -1,4 +1,4 @@
-use Rattle.std.proofs.Common.{◌≡◌, Bool, true, sym, ap, ◌∙◌}
+use Rattle.std.proofs.Common.{Bool, true, sym, ap, ◌∙◌}
 use Rattle.charges.specs.Generic.{kind_of}
 use Rattle.charges.specs.Charges.{contents}
 use Rattle.calculus.specs.Steps.{closed}

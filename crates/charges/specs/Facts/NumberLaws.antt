@@ -6,7 +6,7 @@ use Rattle.charges.specs.Kinds.{Laws}
 use Rattle.charges.specs.SumKind.{sum_of, sum_kind}
 use Rattle.charges.specs.WorstKind.{worst_of, worst_kind}
 use Rattle.charges.specs.declared.kinds.Sum.{Sum}
-use Rattle.charges.specs.Same.{sum_same}
+use Rattle.charges.specs.Facts.Same.{sum_same}
 
 leb_total : (m n : ℕ) → (nat_le m n ≡ true) ⊎ (nat_le n m ≡ true)
 leb_total m n = ⊎_elim (λ (h : m < n). inl (le-leb m n (omega arith))) (λ (h : n ≤ m). inr (le-leb n m h)) (cases_lt m n)

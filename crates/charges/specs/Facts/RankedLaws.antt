@@ -5,7 +5,7 @@ use Rattle.std.proofs.lemmas.Bool.{ltb-true, leb-true, lt-ltb, le-leb, lt-leb, c
 use Rattle.charges.specs.Kinds.{Laws}
 use Rattle.charges.specs.RankedKind.{ranked_of, ranked_sum, ranked_not_above, ranked_kind}
 use Rattle.charges.specs.declared.kinds.Ranked.{Ranked}
-use Rattle.charges.specs.Same.{ranked_same}
+use Rattle.charges.specs.Facts.Same.{ranked_same}
 
 -- both parts as one number of 64 bits, which is compared as they are
 abbrev as_one : Ranked → ℕ
