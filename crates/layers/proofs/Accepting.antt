@@ -1,6 +1,6 @@
 -- What passed all checks has none of the faults.
 use Rattle.std.proofs.Common.{◌≡◌, ℕ, Bool, true, false, cond, List, [], ◌∷◌, Ok, Err, Result, refl, arith}
-use Rattle.std.specs.List.{AllByRecursion as All}
+use Rattle.std.specs.List.{AllByRecursion}
 use Rattle.cases.specs.declared.refusal.Refusal.{Refusal}
 use Rattle.layers.specs.Checks.{unless_refused}
 
@@ -9,6 +9,6 @@ module _ {X : Type 0} where
   past_first true e x r h = let z : ◌≡◌ {A = ℕ} 0 1 = cc in absurd (omega arith)
   past_first false e x r h = (refl, h)
 
-  pub no_fault : (faults : List (Bool × Refusal)) (x y : X) → Ok x ≡ unless_refused faults y → All (λ fault. fault.0 ≡ false) faults
+  pub no_fault : (faults : List (Bool × Refusal)) (x y : X) → Ok x ≡ unless_refused faults y → AllByRecursion (λ fault. fault.0 ≡ false) faults
   no_fault [] x y h = tt
   no_fault (fault ∷ faults) x y h = let p = past_first fault.0 fault.1 x (unless_refused faults y) h in (p.0, no_fault faults x y p.1)

@@ -14,7 +14,7 @@ ghost use Rattle.search.specs.Inner.Changes.{forgetting};
 
 use crate::choices::{chosen, write_marks};
 use crate::search::Search;
-use crate::tables::restart;
+use crate::restarts::restart;
 use crate::verdict::Verdict;
 use cases::case::Case;
 use cases::refusal::Refusal;

@@ -13,7 +13,7 @@ use crate::verdict::Verdict;
 use cases::case::Case;
 use cases::refusal::Refusal;
 use charges::charge::Charge;
-use steps::tables::Tables;
+use steps::held::Tables;
 
 impl<P: Case, K: Charge> Search<P, K> {
     // A new search over a pile, which it takes with it.

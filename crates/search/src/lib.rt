@@ -7,5 +7,5 @@ pub mod calls;
 mod choices;
 mod runs;
 pub mod search;
-mod tables;
+mod restarts;
 pub mod verdict;

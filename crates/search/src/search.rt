@@ -1,7 +1,7 @@
 // A search: the pile and the charge of its best choice by value, and its tables beside them.
 use cases::case::Case;
 use charges::charge::Charge;
-use steps::tables::Tables;
+use steps::held::Tables;
 
 #[derive(Drop)]
 pub struct Search<P: Case, K: Charge> {

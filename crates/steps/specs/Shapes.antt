@@ -15,7 +15,7 @@ use Rattle.trails.specs.Trails.{listed}
 use Rattle.tables.specs.Rows.{Noted, nothing_noted, marked}
 use Rattle.tables.specs.Learned.{rows_of, rules_learned}
 use Rattle.tables.specs.Conditions.{conditions_of}
-use Rattle.steps.specs.declared.tables.Tables.{Tables}
+use Rattle.steps.specs.declared.held.Tables.{Tables}
 
 -- The tables without what they keep to themselves.
 pub record Shape : Type 0 where

@@ -8,7 +8,7 @@ use Rattle.charges.specs.Charges.{contents}
 use Rattle.calculus.specs.States.{Best, State}
 use Rattle.calculus.specs.Changes.{choice_of}
 use Rattle.rules.specs.Force.{rules_in}
-use Rattle.steps.specs.declared.tables.Tables.{Tables}
+use Rattle.steps.specs.declared.held.Tables.{Tables}
 use Rattle.steps.specs.Shapes.{Shape, shape, Right}
 
 -- The best of n options, from its charge and the literals of its choice.

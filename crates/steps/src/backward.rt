@@ -16,7 +16,7 @@ ghost use Rattle.steps.specs.States.{seen};
 
 use crate::changes::{backtrack, pop};
 use crate::literals_of::all_literals;
-use crate::tables::Tables;
+use crate::held::Tables;
 use cases::case::Case;
 use cases::literals::opposite;
 use charges::charge::Charge;

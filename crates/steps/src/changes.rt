@@ -8,7 +8,7 @@ ghost use Rattle.trails.specs.Trails.{listed, has_place};
 ghost use Rattle.tables.specs.Learned.{rows_of};
 ghost use Rattle.steps.specs.Shapes.{shape, conflicting, improving, pushing, popping, backing, mark_named, still_named, Right};
 
-use crate::tables::Tables;
+use crate::held::Tables;
 use literals::LiteralSet;
 use tables::learned::Learned;
 use trails::entry::{Entry, Reason};

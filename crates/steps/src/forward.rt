@@ -16,7 +16,7 @@ ghost use Rattle.steps.specs.States.{best_seen, seen};
 
 use crate::changes::{conflict_with, improve, push};
 use crate::literals_of::{decision, live_literals, trail_charge};
-use crate::tables::Tables;
+use crate::held::Tables;
 use cases::case::Case;
 use charges::charge::Charge;
 use literals::LiteralSet;

@@ -6,4 +6,4 @@ mod changes;
 mod forward;
 mod literals_of;
 pub mod step;
-pub mod tables;
+pub mod held;

@@ -9,7 +9,7 @@ ghost use Rattle.steps.specs.States.{seen, NotedRight};
 use crate::backward::backward;
 use crate::forward::forward;
 use crate::literals_of::all_literals;
-use crate::tables::Tables;
+use crate::held::Tables;
 use cases::case::Case;
 use charges::charge::Charge;
 

@@ -3,7 +3,7 @@ use Rattle.std.specs.Prelude.{◌≡◌, ℕ, zero, suc, ◌+◌, ◌-◌, ◌*�
 use Rattle.std.proofs.Common.{sym, subst, ⊎_elim, suc-mul, mul-suc, mul-le-mul, arith, length-append}
 use Rattle.std.proofs.lemmas.List.{length-map}
 use Rattle.std.proofs.Math.ListN.{get_or-eq_default}
-use Rattle.std.specs.List.{AllByRecursion as All}
+use Rattle.std.specs.List.{AllByRecursion}
 use Rattle.std.proofs.ByRecursion.{All-append, All-map, All-weaker, All-get_or}
 use Rattle.std.proofs.lemmas.Bool.{leb-true, and_parts, cases_lt}
 use Rattle.cases.specs.Meanings.{Meaning, Sound, sound, is_oversize, options_of, rules_of, amounts_of}
@@ -38,14 +38,14 @@ pair_rule b x y h k = (refl, each)
     each (suc zero) i = omega arith
     each (suc (suc j)) i = absurd (omega arith)
 
-pairs_of_group : (b : ℕ) (g : List ℕ) → past_all g ≤ b → All (PairRule b) (pair_rules g)
+pairs_of_group : (b : ℕ) (g : List ℕ) → past_all g ≤ b → AllByRecursion (PairRule b) (pair_rules g)
 pairs_of_group b [] h = tt
 pairs_of_group b (x ∷ ys) h =
     All-append (PairRule b) (map (not_together x) ys) (pair_rules ys)
     (All-map (PairRule b) (not_together x) ys (All-weaker (λ y. y < b) (λ y. PairRule b (not_together x y)) (λ y k. pair_rule b x y (omega arith) k) ys (all_below_past ys b (omega arith))))
     (pairs_of_group b ys (omega arith))
 
-pairs_of_groups : (b : ℕ) (gs : List (List ℕ)) → group_reach gs ≤ b → All (PairRule b) (group_rules gs)
+pairs_of_groups : (b : ℕ) (gs : List (List ℕ)) → group_reach gs ≤ b → AllByRecursion (PairRule b) (group_rules gs)
 pairs_of_groups b [] h = tt
 pairs_of_groups b (g ∷ gs) h = All-append (PairRule b) (pair_rules g) (group_rules gs) (pairs_of_group b g (omega arith)) (pairs_of_groups b gs (omega arith))
 

@@ -3,7 +3,7 @@ ghost use Rattle.std.specs.Prelude.{◌≡◌, ℕ};
 ghost use Rattle.steps.specs.Shapes.{shape, Right};
 ghost use Rattle.search.specs.Inner.Changes.{restarting};
 
-use steps::tables::Tables;
+use steps::held::Tables;
 
 // The trail is emptied, the conflict set becomes none, and the counts are zeroed. No row is a reason then.
 pub fn restart(tables: &mut Tables)

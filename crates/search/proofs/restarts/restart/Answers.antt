@@ -9,7 +9,7 @@ use Rattle.steps.specs.Shapes.{shape}
 use Rattle.steps.proofs.Shaped.{same_shape}
 use Rattle.search.specs.Inner.Changes.{restarting}
 use Rattle.search.proofs.Choosing.{no_marks}
-use Rattle.search.proofs.tables.restart.Goals as goal
+use Rattle.search.proofs.restarts.restart.Goals as goal
 
 no_reason : (t : Trail) (i : ℕ) → t ≡ [] → is_reason t i ≡ false
 unfolding is_reason
