@@ -13,8 +13,8 @@ ghost use Rattle.search.specs.Replies.{done, run_reply, read_reply, tally_reply}
 ghost use Rattle.search.specs.Inner.Changes.{forgetting};
 
 use crate::choices::{chosen, write_marks};
-use crate::search::Search;
 use crate::restarts::restart;
+use crate::search::Search;
 use crate::verdict::Verdict;
 use cases::case::Case;
 use cases::refusal::Refusal;

@@ -5,7 +5,7 @@ mod acts;
 mod asks;
 pub mod calls;
 mod choices;
+mod restarts;
 mod runs;
 pub mod search;
-mod restarts;
 pub mod verdict;

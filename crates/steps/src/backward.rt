@@ -15,8 +15,8 @@ ghost use Rattle.steps.specs.Shapes.{Right, Asserted};
 ghost use Rattle.steps.specs.States.{seen};
 
 use crate::changes::{backtrack, pop};
-use crate::literals_of::all_literals;
 use crate::held::Tables;
+use crate::literals_of::all_literals;
 use cases::case::Case;
 use cases::literals::opposite;
 use charges::charge::Charge;

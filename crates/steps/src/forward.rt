@@ -15,8 +15,8 @@ ghost use Rattle.steps.specs.Shapes.{Right, Live};
 ghost use Rattle.steps.specs.States.{best_seen, seen};
 
 use crate::changes::{conflict_with, improve, push};
-use crate::literals_of::{decision, live_literals, trail_charge};
 use crate::held::Tables;
+use crate::literals_of::{decision, live_literals, trail_charge};
 use cases::case::Case;
 use charges::charge::Charge;
 use literals::LiteralSet;

@@ -4,6 +4,6 @@
 mod backward;
 mod changes;
 mod forward;
+pub mod held;
 mod literals_of;
 pub mod step;
-pub mod held;

@@ -8,8 +8,8 @@ ghost use Rattle.steps.specs.States.{seen, NotedRight};
 
 use crate::backward::backward;
 use crate::forward::forward;
-use crate::literals_of::all_literals;
 use crate::held::Tables;
+use crate::literals_of::all_literals;
 use cases::case::Case;
 use charges::charge::Charge;
 
