@@ -4,6 +4,7 @@ use mathlib.Core.Bool.{beq}
 use Rattle.std.proofs.lemmas.Bool.{or_cases, or_left, or_right, and_parts, and_from, true≢false, ltb-true, eqb-true, eq-eqb}
 use Rattle.cases.specs.Literals.{complement, Literals, members}
 use Rattle.cases.specs.Choices.{sets, keeps, keeps_all}
+use Rattle.cases.proofs.Tests.{beq_true, beq_false}
 use Rattle.calculus.specs.Changes.{choice_of}
 use Rattle.calculus.specs.Checks.{exist, all_exist}
 use Rattle.calculus.proofs.Literals.{complement_half}
@@ -105,14 +106,6 @@ choice_at (suc n) zero S l = refl
 choice_at (suc n) (suc v) S l =
     let e : 2 + 2 * v ≡ 2 * suc v = omega arith in
     choice_at n v (λ x. S (2 + x)) (omega arith) ∙ ap S e
-
-pub beq_true : (b : Bool) → beq b true ≡ b
-beq_true true = refl
-beq_true false = refl
-
-pub beq_false : (b : Bool) → beq b false ≡ not b
-beq_false true = refl
-beq_false false = refl
 
 even_literal : (l : ℕ) → l % 2 ≡ 0 → 2 * (l / 2) ≡ l
 even_literal l e = omega arith

@@ -64,10 +64,6 @@ pub length-clauses : {K : Kind} (m : Sound) (s : State K) → length (clauses m 
 unfolding clauses
 length-clauses m s = length-append (map members (in_force m s)) s.learned ∙ ap (λ (k : ℕ). k + length s.learned) (length-map (in_force m s) members)
 
-members_none : (x : ℕ) → members [] x ≡ false
-unfolding members
-members_none x = refl
-
 -- a clause is the set of a rule in force, or a row
 pub clause_rule : {K : Kind} (m : Sound) (s : State K) (i : ℕ) → i < length (in_force m s) → clause (clauses m s) i ≡ members (get_or (in_force m s) i [])
 unfolding clauses clause members

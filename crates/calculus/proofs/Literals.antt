@@ -1,5 +1,5 @@
 -- Complements of literals, by arithmetic.
-use Rattle.std.proofs.Common.{◌≡◌, ℕ, ◌+◌, ◌*◌, ◌/◌, ◌%◌, ◌<◌, ◌⊎◌, sym, ap, ◌∙◌, inl, inr, ⊎_elim, arith}
+use Rattle.std.proofs.Common.{◌≡◌, ℕ, ◌*◌, ◌/◌, ◌%◌, ◌<◌, ◌⊎◌, sym, ap, ◌∙◌, inl, inr, ⊎_elim, arith}
 use Rattle.std.proofs.lemmas.Bool.{cases_eq}
 use Rattle.cases.specs.Literals.{complement}
 
@@ -26,11 +26,3 @@ complement_swap l x e = sym (complement_twice x) ∙ ap complement e
 pub same_option : (l x : ℕ) → l / 2 ≡ x / 2 → (l ≡ x) ⊎ (l ≡ complement x)
 unfolding complement
 same_option l x e = ⊎_elim (λ (h : l % 2 ≡ x % 2). inl (omega arith)) (λ (h : l % 2 ≡ x % 2 → ⊥). inr (omega arith)) (cases_eq (l % 2) (x % 2))
-
-pub complement_on : (v : ℕ) → complement (2 * v) ≡ 2 * v + 1
-unfolding complement
-complement_on v = omega arith
-
-pub complement_off : (v : ℕ) → complement (2 * v + 1) ≡ 2 * v
-unfolding complement
-complement_off v = omega arith

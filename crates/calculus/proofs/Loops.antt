@@ -1,20 +1,13 @@
 -- What a loop that counts up meets, from the definitions: one more number at the top, and the first place of a list that passes.
-use Rattle.std.proofs.Common.{◌≡◌, ℕ, zero, suc, ◌+◌, ◌<◌, max, Bool, true, false, cond, ◌||◌, List, [], ◌∷◌, length, get_or, refl, ap, ◌∙◌, not-suc-le-zero, arith}
+use Rattle.std.proofs.Common.{◌≡◌, ℕ, zero, suc, ◌+◌, ◌<◌, max, Bool, true, false, cond, ◌||◌, List, [], ◌∷◌, length, get_or, sym, refl, ap, ◌∙◌, not-suc-le-zero, arith}
 use mathlib.Core.Option.{none, some}
+use Rattle.std.proofs.Math.Bool.{or-false, or_assoc}
 use Rattle.calculus.specs.Scans.{any, count, greatest, first, place, later}
-
-or_regroup : (a b c : Bool) → (a || (b || c)) ≡ (a || b || c)
-or_regroup true b c = refl
-or_regroup false b c = refl
-
-or_none : (b : Bool) → (b || false) ≡ b
-or_none true = refl
-or_none false = refl
 
 pub any_more : (k : ℕ) (p : ℕ → Bool) → any (suc k) p ≡ (any k p || p k)
 unfolding any
-any_more zero p = or_none (p 0)
-any_more (suc k) p = ap (λ (b : Bool). p 0 || b) (any_more k (λ x. p (suc x))) ∙ or_regroup (p 0) (any k (λ x. p (suc x))) (p (suc k))
+any_more zero p = or-false (p 0)
+any_more (suc k) p = ap (λ (b : Bool). p 0 || b) (any_more k (λ x. p (suc x))) ∙ sym (or_assoc (p 0) (any k (λ x. p (suc x))) (p (suc k)))
 
 pub count_more : (k : ℕ) (p : ℕ → Bool) → count (suc k) p ≡ count k p + cond (p k) 1 0
 unfolding count

@@ -1,5 +1,6 @@
 -- Trails, from their definition: no option twice, levels, cutting, and how a trail counts the conflicts that can still come.
-use Rattle.std.proofs.Common.{◌≡◌, ℕ, zero, suc, ◌+◌, ◌-◌, ◌*◌, ◌/◌, ◌%◌, ◌^◌, ◌<◌, ◌≤◌, Bool, true, false, not, ◌&&◌, eqb, leb, [], ◌∷◌, length, sym, refl, ap, ◌∙◌, subst, ⊎_elim, arith, pow_pos}
+use Rattle.std.proofs.Common.{◌≡◌, ℕ, zero, suc, ◌+◌, ◌-◌, ◌*◌, ◌/◌, ◌%◌, ◌^◌, ◌<◌, ◌≤◌, true, false, not, ◌&&◌, eqb, leb, [], ◌∷◌, length, sym, refl, ap, ◌∙◌, subst, ⊎_elim, arith, pow_pos}
+use Rattle.std.proofs.Math.Bool.{and_comm}
 use Rattle.std.proofs.lemmas.Bool.{both_ways, cases_Bool, or_cases, or_left, or_right, or_from, and_parts, and_from, and_left, not-true, true≢false, cases_lt, leb-true, leb-false, eqb-true, eq-eqb, ne_eqb, le-leb, lt-leb, cond_both}
 use Rattle.cases.specs.Literals.{complement, Literals}
 use Rattle.calculus.specs.Scans.{count}
@@ -34,12 +35,6 @@ on_one n (e ∷ t) x d h =
     (on_one n t x d.1 k))
     (or_cases (eqb e.literal x) (on t x) h)
 
-and_swap : (a b : Bool) → (a && b) ≡ (b && a)
-and_swap true true = refl
-and_swap true false = refl
-and_swap false true = refl
-and_swap false false = refl
-
 pub even_pair : (l : ℕ) → l % 2 ≡ 0 → (2 * (l / 2) ≡ l) × (2 * (l / 2) + 1 ≡ complement l)
 unfolding complement
 even_pair l e = omega arith
@@ -55,7 +50,7 @@ unset_at t l = go (l % 2) refl
   where
     go : (k : ℕ) → l % 2 ≡ k → (not (on t (2 * (l / 2))) && not (on t (2 * (l / 2) + 1))) ≡ (not (on t l) && not (on t (complement l)))
     go zero e = let w = even_pair l e in rw (w.1, w.0)
-    go (suc k) e = let w = odd_pair l (omega arith) in rw (w.1, w.0) (and_swap (not (on t (complement l))) (not (on t l)))
+    go (suc k) e = let w = odd_pair l (omega arith) in rw (w.1, w.0) (and_comm (not (on t (complement l))) (not (on t l)))
 
 pub free_unset : (n : ℕ) (t : Trail) (l : ℕ) → Free n t l → unset t (l / 2) ≡ true
 free_unset n t l f = unset_at t l ∙ and_from (not (on t l)) (not (on t (complement l))) (ap not f.not_set) (ap not f.not_false)
@@ -107,7 +102,7 @@ unfolding opened
 opened_up decided k = omega arith
 opened_up (forced i) k = omega arith
 
-opened_by : (r : Reason) (k : ℕ) → opened r k ≤ suc k
+pub opened_by : (r : Reason) (k : ℕ) → opened r k ≤ suc k
 unfolding opened
 opened_by decided k = omega arith
 opened_by (forced i) k = omega arith

@@ -8,22 +8,18 @@ ghost use Rattle.charges.specs.Generic.{kind_of};
 use charges::charge::Charge;
 
 // After every list of calls on every pile within its limits, all that is promised of the search holds.
-pub fn promises_kept<K: Charge>() -> u8
+pub fn promises_kept<K: Charge>()
     ensures { PromisesKept (kind_of K.Charge) }
-{
-    0
-}
+{}
 
 // A call that leaves what the definition says continues every list of calls before it.
-pub fn calls_continue<K: Charge>() -> u8
+#[tactic(auto, using(crate::proofs::Piles::calls_continue))]
+pub fn calls_continue<K: Charge>()
     ensures { CallsContinue (kind_of K.Charge) }
-{
-    0
-}
+{}
 
 // The worked examples follow from the definitions.
-pub fn examples_hold() -> u8
+#[tactic(auto, using(crate::proofs::Examples::all_rows))]
+pub fn examples_hold()
     ensures { AllRows }
-{
-    0
-}
+{}

@@ -1,33 +1,22 @@
 -- A list written over another at a place.
-use Rattle.std.proofs.Common.{◌≡◌, ℕ, ◌+◌, ◌<◌, ◌≤◌, false, ltb, List, [], ◌∷◌, ◌++◌, length, get_or, take, drop, set, Ok, Err, Result, sym, ap, ◌∙◌, ap₂, add-zero, add_assoc, zero-add, arith}
-use Rattle.std.proofs.lemmas.List.{drop_more, set_at, append_assoc, append-nil, take-append-drop, take_at, drop_at, drop-drop, length-append, length-take-le, length_push, length-drop, take_more, flat_map_more}
-use Rattle.std.proofs.lemmas.Bool.{cond-false, le-ltb}
+use Rattle.std.proofs.Common.{◌≡◌, ℕ, zero, suc, ◌+◌, ◌*◌, ◌<◌, ◌≤◌, false, eqb, ltb, List, map, [], ◌∷◌, ◌++◌, length, get_or, take, drop, Ok, Err, Result, sym, refl, subst, ap, ◌∙◌, ap₂, add-one, add-zero, add_assoc, zero-add, arith}
+use Rattle.std.proofs.lemmas.List.{append_assoc, append-nil, take-append-drop, take_at, drop_at, drop-drop, length-append, length-take-le, length-drop, take_more, flat_map_more, take_all}
+use Rattle.std.proofs.lemmas.List.FromFn.{sum_by-map-range_with_len_more}
+use Rattle.std.proofs.lemmas.Bool.{cond_both, cond-false, le-ltb}
 use Rattle.cases.specs.declared.refusal.Refusal.{Refusal}
 use Rattle.cases.specs.declared.refusal.Refusal.TheVariants.{ShortBuffer}
 use Rattle.cases.specs.Meanings.{Meaning, oversize, sound, is_oversize}
-use Rattle.casefile.specs.Inner.Writing.{over}
-use Rattle.casefile.specs.Bytes.{field, charge_field, amount_fields, rule_fields, encode, encode_told, written, buffer_after}
+use Rattle.std.specs.List.{sum, range_with_len}
+use Rattle.casefile.specs.declared.writer.Cursor.{Cursor}
+use Rattle.casefile.specs.Inner.Writing.{over, Room, Wrote}
+use Rattle.casefile.specs.Bytes.{field, amount_field, charge_field, amount_fields, rule_fields, encode, encode_told, written, buffer_after}
 
 module _ {X : Type 0} (at : ℕ) (old : List X) where
-  pub over_none : over at old [] ≡ old
-  over_none = ap (λ (n : ℕ). take at old ++ drop n old) (add-zero at) ∙ take-append-drop at old
-
   split : (ys : List X) → over at old ys ≡ (take at old ++ ys) ++ drop (at + length ys) old
   split ys = sym (append_assoc (take at old) ys (drop (at + length ys) old))
 
   long : (ys : List X) → at ≤ length old → length (take at old ++ ys) ≡ at + length ys
   long ys h = length-append (take at old) ys ∙ ap (λ (n : ℕ). n + length ys) (length-take-le at old h)
-
-  pub over_more : (ys : List X) (x d : X) → at + length ys < length old → set (over at old ys) (at + length ys) x ≡ over at old (ys ++ x ∷ [])
-  over_more ys x d h =
-      let n : ℕ = at + length ys in
-      let h0 : at ≤ length old = omega arith in
-      let k : n + 1 ≡ at + length (ys ++ x ∷ []) = omega (arith, length_push ys x) in
-      ap (λ (z : List X). set z n x) (split ys ∙ ap (λ (z : List X). (take at old ++ ys) ++ z) (drop_more old n d h))
-      ∙ set_at (take at old ++ ys) (get_or old n d) (drop (n + 1) old) x n (long ys h0)
-      ∙ append_assoc (take at old) ys (x ∷ drop (n + 1) old)
-      ∙ ap (λ (z : List X). take at old ++ z) (sym (append_assoc ys (x ∷ []) (drop (n + 1) old)))
-      ∙ ap (λ (m : ℕ). take at old ++ ((ys ++ x ∷ []) ++ drop m old)) k
 
   pub over_over : (ys zs : List X) → at + length ys ≤ length old → over (at + length ys) (over at old ys) zs ≡ over at old (ys ++ zs)
   over_over ys zs h =
@@ -50,11 +39,41 @@ module _ {X : Type 0} (at : ℕ) (old : List X) where
       ap length (split ys) ∙ length-append (take at old ++ ys) (drop (at + length ys) old)
       ∙ ap₂ (λ (a b : ℕ). a + b) (long ys h0) (length-drop (at + length ys) old) ∙ omega arith
 
--- one part more after those that are written from a place on
-pub next_over : (from : ℕ) (old done f now_is then_is : List ℕ) (at : ℕ) → at ≡ from + length done → from + length done ≤ length old
-    → now_is ≡ over from old done → then_is ≡ over at now_is f → then_is ≡ over from old (done ++ f)
-next_over from old done f now_is then_is at e h p q =
-    q ∙ ap₂ (λ (n : ℕ) (z : List ℕ). over n z f) e p ∙ over_over from old done f h
+-- a cursor that writes one part after another
+pub wrote_more : (w u v : Cursor) (ys zs : List ℕ) → Room w ys → Wrote w ys u → Wrote u zs v → Wrote w (ys ++ zs) v
+wrote_more w u v ys zs h p q = record {
+  same = q.same ∙ p.same;
+  bytes = q.bytes ∙ ap₂ (λ (n : ℕ) (z : List ℕ). over n z zs) p.place p.bytes ∙ over_over w.at w.out.now ys zs h;
+  place = omega (arith, p.place, q.place, length-append ys zs);
+}
+
+-- one part more of all that there is room for
+pub room_next : (w u : Cursor) (all ys zs more : List ℕ) → Room w all → more ≡ ys ++ zs → length more ≤ length all → Wrote w ys u → Room u zs
+room_next w u all ys zs more h e k p =
+    let l = length-append ys zs in
+    let m = ap length e in
+    let r : Room w ys = omega arith in
+    omega (arith, p.place, ap length p.bytes, length_over w.at w.out.now ys r)
+
+pub wrote_next : (w u v : Cursor) (all ys zs more : List ℕ) → Room w all → more ≡ ys ++ zs → length more ≤ length all → Wrote w ys u → Wrote u zs v → Wrote w more v
+wrote_next w u v all ys zs more h e k p q =
+    let l = length-append ys zs in
+    let m = ap length e in
+    let r : Room w ys = omega arith in
+    subst (λ (z : List ℕ). Wrote w z v) (sym e) (wrote_more w u v ys zs r p q)
+
+-- two parts, where the second is written because there is room for it
+pub wrote_then : (w u v : Cursor) (ys zs : List ℕ) → Room w (ys ++ zs) → Wrote w ys u → (Room u zs → Wrote u zs v) → Wrote w (ys ++ zs) v
+wrote_then w u v ys zs h p q =
+    let k : length (ys ++ zs) ≤ length (ys ++ zs) = omega arith in
+    wrote_next w u v (ys ++ zs) ys zs (ys ++ zs) h refl k p (q (room_next w u (ys ++ zs) ys zs (ys ++ zs) h refl k p))
+
+-- a sum over a range, by what each number adds
+pub sum_range : (h F : ℕ → ℕ) (m : ℕ) → F 0 ≡ 0 → ((i : ℕ) → i < m → F (i + 1) ≡ F i + h i) → (n : ℕ) → n ≤ m → sum (map h (range_with_len 0 n)) ≡ F n
+sum_range h F m none step zero k = sym none
+sum_range h F m none step (suc n) k =
+    subst (λ (j : ℕ). sum (map h (range_with_len 0 j)) ≡ F j) (add-one n)
+    (sum_by-map-range_with_len_more (λ (x : ℕ). x) h 0 n n (zero-add n) ∙ ap (λ (z : ℕ). z + h n) (sum_range h F m none step n (omega arith)) ∙ sym (step n (omega arith)))
 
 -- one rule more
 pub rules_more : (rs : List (List ℕ)) (r : ℕ) → r < length rs → rule_fields (take (r + 1) rs) ≡ rule_fields (take r rs) ++ field 3 (get_or rs r [])
@@ -89,37 +108,30 @@ amounts_next xs l a h e = amounts_more xs l h ∙ ap (λ (y : ℕ). amount_field
 pub amounts_part : (xs : List ℕ) (l : ℕ) → length (amount_fields 0 (take l xs)) ≤ length (amount_fields 0 xs)
 amounts_part xs l = omega (arith, ap length (amounts-append 0 (take l xs) (drop l xs)), length-append (amount_fields 0 (take l xs)) (amount_fields (0 + length (take l xs)) (drop l xs)), ap (λ (z : List ℕ). length (amount_fields 0 z)) (take-append-drop l xs))
 
--- a header and the literals after it
-pub rule_over : (at : ℕ) (old ls : List ℕ) (n : ℕ) (second third : List ℕ) → n ≡ length ls → at + 3 ≤ length old
-    → second ≡ over at old (3 ∷ (0 ∷ (n ∷ []))) → third ≡ over (at + 3) second ls → third ≡ over at old (field 3 ls)
-rule_over at old ls n second third e h p q =
-    q ∙ ap (λ (z : List ℕ). over (at + 3) z ls) p
-    ∙ over_over at old (3 ∷ (0 ∷ (n ∷ []))) ls h
-    ∙ ap (λ (k : ℕ). over at old (3 ∷ (0 ∷ (k ∷ ls)))) e
+-- how long they get
+pub charge_small : (l a : ℕ) → length (charge_field l a) ≤ 8
+charge_small l a = cond_both (eqb a 0) [] (amount_field l a) (λ (z : List ℕ). length z ≤ 8) (λ _. omega arith) (λ _. omega arith)
 
--- one more byte after those that are written
-pub byte_over : (at : ℕ) (old ls now_is : List ℕ) (j x : ℕ) → j < length ls → at + length ls ≤ length old → x ≡ get_or ls j 0
-    → now_is ≡ over at old (take j ls) → set now_is (at + j) x ≡ over at old (take (j + 1) ls)
-byte_over at old ls now_is j x h room e p =
-    let n : length (take j ls) ≡ j = length-take-le j ls (omega arith) in
-    ap₂ (λ (z : List ℕ) (k : ℕ). set z (at + k) x) p (sym n)
-    ∙ over_more at old (take j ls) x 0 (omega arith)
-    ∙ ap (λ (y : ℕ). over at old (take j ls ++ y ∷ [])) e
-    ∙ ap (over at old) (sym (take_more ls j 0 h))
+pub amounts_small : (l : ℕ) (xs : List ℕ) → length (amount_fields l xs) ≤ 8 * length xs
+amounts_small l [] = omega arith
+amounts_small l (x ∷ xs) = omega (arith, length-append (charge_field l x) (amount_fields (l + 1) xs), charge_small l x, amounts_small (l + 1) xs)
 
--- a case written from its start: four parts
-pub four_over : (old h p r e o1 o2 o3 o4 : List ℕ) (n m : ℕ) → n ≡ length h + length p → m ≡ n + length r → length (h ++ (p ++ (r ++ e))) ≤ length old
-    → o1 ≡ over 0 old h → o2 ≡ over (length h) o1 p → o3 ≡ over n o2 r → o4 ≡ over m o3 e → o4 ≡ over 0 old (h ++ (p ++ (r ++ e)))
-four_over old h p r e o1 o2 o3 o4 n m en em room e1 e2 e3 e4 =
-    let l1 = length-append h (p ++ (r ++ e)) in
-    let l2 = length-append p (r ++ e) in
-    let l3 = length-append r e in
-    let lhp = length-append h p in
-    let lhpr = length-append (h ++ p) r in
-    let s2 : o2 ≡ over 0 old (h ++ p) = next_over 0 old h p o1 o2 (length h) (sym (zero-add (length h))) (omega arith) e1 e2 in
-    let s3 : o3 ≡ over 0 old ((h ++ p) ++ r) = next_over 0 old (h ++ p) r o2 o3 n (omega arith) (omega arith) s2 e3 in
-    let s4 : o4 ≡ over 0 old (((h ++ p) ++ r) ++ e) = next_over 0 old ((h ++ p) ++ r) e o3 o4 m (omega arith) (omega arith) s3 e4 in
-    s4 ∙ ap (over 0 old) (append_assoc (h ++ p) r e ∙ append_assoc h p (r ++ e))
+pub rules_small : (rs : List (List ℕ)) → ((r : ℕ) → length (get_or rs r []) ≤ 24) → length (rule_fields rs) ≤ 27 * length rs
+rules_small [] h = omega arith
+rules_small (x ∷ rs) h = omega (arith, length-append (field 3 x) (rule_fields rs), h 0, rules_small rs (λ r. h (suc r)))
+
+-- the same in numbers, as sums over the literals and over the rules
+pub amounts_sum : (xs : List ℕ) (n : ℕ) → n ≡ length xs → sum (map (λ l. length (charge_field l (get_or xs l 0))) (range_with_len 0 n)) ≡ length (amount_fields 0 xs)
+amounts_sum xs n e =
+    sum_range (λ l. length (charge_field l (get_or xs l 0))) (λ l. length (amount_fields 0 (take l xs))) (length xs) refl
+    (λ l h. ap length (amounts_more xs l h) ∙ length-append (amount_fields 0 (take l xs)) (charge_field l (get_or xs l 0))) n (omega arith)
+    ∙ ap (λ (z : List ℕ). length (amount_fields 0 z)) (take_all n xs (omega arith))
+
+pub rules_sum : (rs : List (List ℕ)) (n : ℕ) → n ≡ length rs → sum (map (λ r. length (field 3 (get_or rs r []))) (range_with_len 0 n)) ≡ length (rule_fields rs)
+rules_sum rs n e =
+    sum_range (λ r. length (field 3 (get_or rs r []))) (λ r. length (rule_fields (take r rs))) (length rs) refl
+    (λ r h. ap length (rules_more rs r h) ∙ length-append (rule_fields (take r rs)) (field 3 (get_or rs r []))) n (omega arith)
+    ∙ ap (λ (z : List (List ℕ)). length (rule_fields z)) (take_all n rs (omega arith))
 
 -- what is written from the start stands before what was there
 pub written_ok : (m : Meaning) (old new : List ℕ) (n : ℕ) → is_oversize m ≡ false → length (encode_told m) ≤ length old → n ≡ length (encode_told m) → new ≡ over 0 old (encode_told m)

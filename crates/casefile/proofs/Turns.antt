@@ -1,7 +1,8 @@
 -- One turn of the file's loop.
-use Rattle.std.proofs.Common.{◌≡◌, ℕ, zero, suc, pred, ◌+◌, ◌-◌, ◌*◌, ◌<◌, ◌≤◌, true, eqb, ltb, leb, List, [], ◌∷◌, ◌++◌, length, get_or, take, drop, Some, None, Ok, Err, Option, Result, sym, refl, ap, ◌∙◌, subst, arith}
+use Rattle.std.proofs.Common.{◌≡◌, ℕ, zero, suc, pred, ◌+◌, ◌-◌, ◌*◌, ◌<◌, ◌≤◌, true, false, eqb, ltb, leb, List, [], ◌∷◌, ◌++◌, length, get_or, take, drop, Some, None, Ok, Err, Option, Result, sym, refl, ap, ◌∙◌, subst, arith}
 use Rattle.std.proofs.lemmas.List.{length_push, length-take, length-drop, get_or-take, get_or-drop, get_or_default}
-use Rattle.std.proofs.lemmas.Bool.{cond_both, ltb-false}
+use Rattle.std.proofs.lemmas.Bool.{cond_both, ltb-false, both_ways}
+use Rattle.std.specs.Result.{MatchResult, is_ok}
 use Rattle.cases.specs.Meanings.{Sound}
 use Rattle.casefile.specs.declared.field.Phase.{Phase}
 use Rattle.casefile.specs.declared.field.Phase.TheVariants.{Start, Amounts, Rules, PastEnd}
@@ -44,13 +45,16 @@ module _ (f n : ℕ) (s : Sound) (p : Phase) (ys xs : List ℕ) (i : ℕ) (same 
     goes_on t was = sym (goes ∙ ap (closed on i) was)
 
 -- what the index noted says what is judged
-pub noted_ok : (xs : List ℕ) (v : Result Sound Fault) (u : Unit {0}) (ix : Index) → Noted xs v (Ok u) ix → (t : Sound) × (v ≡ Ok t) × Follows xs ix t
-noted_ok xs (Ok t) u ix h = (t, refl, h)
-noted_ok xs (Err e) u ix h = absurd h
+pub noted_ok : (xs : List ℕ) (v : Result Sound Fault) (r : Result (Unit {0}) Fault) (ix : Index) → true ≡ is_ok r → Noted xs v r ix → (t : Sound) × (v ≡ Ok t) × Follows xs ix t
+noted_ok xs (Ok t) (Ok u) ix i h = (t, refl, h)
+noted_ok xs (Err e) (Ok u) ix i h = absurd h
+noted_ok xs v (Err e) ix i h = absurd (both_ways false refl (sym i))
 
-pub noted_err : (xs : List ℕ) (v : Result Sound Fault) (e : Fault) (ix : Index) → Noted xs v (Err e) ix → v ≡ Err e
-noted_err xs (Ok t) e ix h = absurd h
-noted_err xs (Err f) e ix h = ap Err h
+pub noted_err : (xs : List ℕ) (v : Result Sound Fault) (r : Result (Unit {0}) Fault) (ix : Index) (q : FileRefusal) (i : ℕ) {P : Fault → Type 0}
+    → MatchResult r (λ x. ◌≡◌ {A = Result (Unit {0}) FileRefusal} (Err q) (Ok x)) P → ((e : Fault) → P e → (q.fault ≡ e) × (q.place ≡ i)) → Noted xs v r ix → (v ≡ Err q.fault) × (q.place ≡ i)
+noted_err xs v (Ok u) ix q i m g h = absurd (let z : ◌≡◌ {A = ℕ} 0 1 = cc in omega arith)
+noted_err xs (Ok t) (Err e) ix q i m g h = absurd h
+noted_err xs (Err f) (Err e) ix q i m g h = (ap Err (h ∙ sym (g e m).0), (g e m).1)
 
 -- a field that is given lies within the file
 pub moved : (p : Phase) (xs : List ℕ) (i : ℕ) (it : Item) (q : Phase) (j : ℕ) → Reads p xs i it q j → (i < j) × (j ≤ length xs)

@@ -1,9 +1,10 @@
 -- The round trip, said of every case and every byte string.
-use Rattle.std.specs.Prelude.{◌≡◌, ℕ, true, ◌↔◌, List, [], ◌∷◌, take, Some, None, Ok, Err, Option, Result}
+use Rattle.std.specs.Prelude.{◌≡◌, ℕ, true, ◌↔◌, List, [], ◌∷◌, take, Ok, Err, Result}
 use Rattle.cases.specs.Meanings.{Sound, Meaning, oversize, sound}
 use Rattle.cases.specs.Limits.{Limited}
 use Rattle.cases.specs.declared.refusal.Refusal.{Refusal}
 use Rattle.casefile.specs.declared.fault.FileRefusal.{FileRefusal}
+use Rattle.casefile.specs.declared.file.FileCase.{FileCase}
 use Rattle.casefile.specs.Format.{Octets}
 use Rattle.casefile.specs.Files.{parse, accepted, refused, is_accepted}
 use Rattle.casefile.specs.Bytes.{encode}
@@ -26,7 +27,7 @@ Readable (sound s) (Err e) new = Unit {0}
 abbrev pub empty_file : List ℕ
 empty_file = 1 ∷ 0 ∷ 2 ∷ 0 ∷ 0 ∷ 4 ∷ 0 ∷ 0 ∷ []
 
--- What opening xs answers: no refusal and a case over ys, the same bytes; or the refusal, and a case over the empty file.
-abbrev pub Opened : List ℕ → Option FileRefusal → List ℕ → Type 0
-Opened xs None ys = (ys ≡ xs) × (is_accepted (parse xs) ≡ true)
-Opened xs (Some r) ys = (ys ≡ empty_file) × (parse xs ≡ refused r.fault r.place)
+-- What opening xs answers: a case over the same bytes, where the file is accepted; or the refusal.
+abbrev pub Opened : List ℕ → Result FileCase FileRefusal → Type 0
+Opened xs (Ok x) = (x.bytes.now ≡ xs) × (is_accepted (parse xs) ≡ true)
+Opened xs (Err r) = parse xs ≡ refused r.fault r.place

@@ -7,25 +7,25 @@ use std::fmt;
 #[derive(Clone, Copy, PartialEq, Eq, Debug)]
 pub enum Fault {
     // the file ends inside a field or before the end field
-    Truncated,
+    Truncated = 1,
     // the tag is not 1 to 4
-    UnknownTag,
+    UnknownTag = 2,
     // the length does not fit the tag
-    WrongLength,
+    WrongLength = 3,
     // a known tag that may not stand here
-    OutOfOrder,
+    OutOfOrder = 4,
     // more than 56 options
-    TooManyOptions,
+    TooManyOptions = 5,
     // a literal of an option that is not there
-    NoSuchLiteral,
+    NoSuchLiteral = 6,
     // an amount whose literal is not above that of the amount before
-    NotRising,
+    NotRising = 7,
     // an amount of 0, which is not to be written down
-    ZeroAmount,
+    ZeroAmount = 8,
     // a rule after 512 rules
-    TooManyRules,
+    TooManyRules = 9,
     // a byte after the end field
-    Trailing,
+    Trailing = 10,
 }
 
 // A fault, and the place of the first byte of the field that has it.
@@ -40,18 +40,15 @@ impl Fault {
     pub fn number(self) -> u8
         ensures { result ≡ fault_number self }
     {
-        match self {
-            Fault::Truncated => 1,
-            Fault::UnknownTag => 2,
-            Fault::WrongLength => 3,
-            Fault::OutOfOrder => 4,
-            Fault::TooManyOptions => 5,
-            Fault::NoSuchLiteral => 6,
-            Fault::NotRising => 7,
-            Fault::ZeroAmount => 8,
-            Fault::TooManyRules => 9,
-            Fault::Trailing => 10,
-        }
+        self as u8
+    }
+
+    // The fault of the field at a place.
+    pub(crate) fn at(self, place: usize) -> FileRefusal
+        ensures fault { result.fault ≡ self }
+        ensures place { result.place ≡ place }
+    {
+        FileRefusal { fault: self, place }
     }
 }
 

@@ -41,6 +41,7 @@ impl<'a> Case for FileCase<'a> {
     }
 
     fn rule_len(&self, r: usize) -> usize {
+        // by a test: `places.get(r)` finds a place past the rules too
         if r < self.rules() {
             let place = self.index.places[r] as usize;
             self.bytes[place + 2] as usize
@@ -50,6 +51,7 @@ impl<'a> Case for FileCase<'a> {
     }
 
     fn literal(&self, r: usize, j: usize) -> u8 {
+        // by a test: `bytes.get(..)` finds a byte past the rule too
         if j < self.rule_len(r) {
             let place = self.index.places[r] as usize;
             self.bytes[place + 3 + j]
@@ -59,10 +61,6 @@ impl<'a> Case for FileCase<'a> {
     }
 
     fn amount(&self, l: u8) -> u32 {
-        if l < 112 {
-            self.index.amounts[l as usize]
-        } else {
-            0
-        }
+        self.index.amounts.get(l as usize).copied().unwrap_or(0)
     }
 }

@@ -8,24 +8,8 @@ use crate::file::FileCase;
 use crate::index::Index;
 use crate::reader::Reader;
 
-// A file case and no refusal; or the refusal, and then the case of the empty file.
-#[derive(Clone, Copy)]
-pub struct Reading<'a> {
-    pub case: FileCase<'a>,
-    pub refusal: Option<FileRefusal>,
-}
-
 // No options and no rules.
 const EMPTY: &[u8] = &[1, 0, 2, 0, 0, 4, 0, 0];
-
-fn empty() -> FileCase<'static>
-    ensures { result.bytes.now ≡ empty_file }
-{
-    FileCase {
-        bytes: EMPTY,
-        index: Index::new(),
-    }
-}
 
 // The whole file: its index, or what is wrong with it.
 fn judge(bytes: &[u8]) -> Result<Index, FileRefusal>
@@ -33,31 +17,34 @@ fn judge(bytes: &[u8]) -> Result<Index, FileRefusal>
 {
     let mut reader = Reader::new(bytes);
     let mut index = Index::new();
+    // a `loop`, since a field's place is asked before the field is read
     loop {
         let place = reader.place();
         let Some(field) = reader.next()? else {
             return Ok(index);
         };
-        if let Err(fault) = index.note(&field, place) {
-            return Err(FileRefusal { fault, place });
+        index.note(&field, place).map_err(|fault| fault.at(place))?;
+    }
+}
+
+impl FileCase<'static> {
+    // The case of the empty file, which a caller may take in place of a file that is refused.
+    pub fn empty() -> FileCase<'static>
+        ensures { result.bytes.now ≡ empty_file }
+    {
+        FileCase {
+            bytes: EMPTY,
+            index: Index::new(),
         }
     }
 }
 
 impl<'a> FileCase<'a> {
     // An accepted file as a case over the caller's bytes, or what is wrong with the file.
-    pub fn open(bytes: &'a [u8]) -> Reading<'a>
-        ensures { Opened bytes.now result.refusal result.case.bytes.now }
+    pub fn open(bytes: &'a [u8]) -> Result<FileCase<'a>, FileRefusal>
+        ensures { Opened bytes.now result }
     {
-        match judge(bytes) {
-            Ok(index) => Reading {
-                case: FileCase { bytes, index },
-                refusal: None,
-            },
-            Err(refusal) => Reading {
-                case: empty(),
-                refusal: Some(refusal),
-            },
-        }
+        let index = judge(bytes)?;
+        Ok(FileCase { bytes, index })
     }
 }

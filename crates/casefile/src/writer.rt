@@ -1,44 +1,89 @@
 // The writer: any case as bytes, into a lent buffer.
-ghost use Rattle.std.specs.Prelude.{◌≡◌, ◌+◌, ◌≤◌, [], length, slice_index_or};
+ghost use Rattle.std.specs.Prelude.{◌≡◌, ◌≤◌, [], length, slice_index_or};
 ghost use Rattle.cases.specs.Meanings.{amounts_of, rules_of};
 ghost use Rattle.casefile.specs.Bytes.{field, options_field, charge_field, amount_fields, rule_fields, encode_told, written, buffer_after};
 ghost use Rattle.casefile.specs.Laws.{Readable};
-ghost use Rattle.casefile.specs.Inner.Writing.{over};
+ghost use Rattle.casefile.specs.Inner.Writing.{Room, Wrote};
 
 use cases::case::Case;
 use cases::refusal::Refusal;
 
-fn put(out: &mut [u8], at: usize, part: &[u8])
-    requires { at + length part.now ≤ length out.old }
-    ensures { out.new ≡ over at out.old part.now }
-{
-    for (j, b) in part.iter().enumerate() {
-        out[at + j] = *b;
-    }
+// A buffer that is written from the front, and how many bytes of it are written. Not what is left of it: the count is the writer's answer.
+#[derive(Drop)]
+struct Cursor<'a> {
+    out: &'a mut [u8],
+    at: usize,
 }
 
-fn put_options(out: &mut [u8], n: usize)
-    requires { (n ≤ 56) × (5 ≤ length out.old) }
-    ensures { out.new ≡ over 0 out.old (options_field n) }
-{
-    put(out, 0, &[1, 0, 2, 0, n as u8]);
-}
-
-// The amount's field, unless it is 0.
-fn put_amount(out: &mut [u8], at: usize, l: u8, a: u32) -> usize
-    requires { at + length (charge_field l a) ≤ length out.old }
-    ensures value { result ≡ at + length (charge_field l a) }
-    ensures after { out.new ≡ over at out.old (charge_field l a) }
-{
-    if a == 0 {
-        return at;
+impl Cursor<'_> {
+    fn put(&mut self, part: &[u8])
+        requires { Room self.old part.now }
+        ensures { Wrote self.old part.now self.new }
+    {
+        let end = self.at + part.len();
+        self.out[self.at..end].copy_from_slice(part);
+        self.at = end;
     }
-    let top = (a / 16777216) as u8;
-    let high = (a / 65536 % 256) as u8;
-    let mid = (a / 256 % 256) as u8;
-    let low = (a % 256) as u8;
-    put(out, at, &[2, 0, 5, l, top, high, mid, low]);
-    at + 8
+
+    fn put_options(&mut self, n: u16)
+        requires { Room self.old (options_field n) }
+        ensures { Wrote self.old (options_field n) self.new }
+    {
+        let [high, low] = n.to_be_bytes();
+        self.put(&[1, 0, 2, high, low]);
+    }
+
+    // The amount's field, unless it is 0.
+    fn put_amount(&mut self, l: u8, a: u32)
+        requires { Room self.old (charge_field l a) }
+        ensures { Wrote self.old (charge_field l a) self.new }
+    {
+        if a > 0 {
+            let [top, high, mid, low] = a.to_be_bytes();
+            self.put(&[2, 0, 5, l, top, high, mid, low]);
+        }
+    }
+
+    // A case tells its amounts and rules by number, here and below, so there is no slice to go over. Nor one loop for the three: each
+    // asks another question and calls another method.
+    fn put_amounts<C: Case>(&mut self, case: &C)
+        requires { Room self.old (amount_fields 0 (amounts_of (C.Case.meaning case.now))) }
+        ensures { Wrote self.old (amount_fields 0 (amounts_of (C.Case.meaning case.now))) self.new }
+    {
+        for l in 0..2 * case.options() as u8 {
+            self.put_amount(l, case.amount(l));
+        }
+    }
+
+    fn put_rule<C: Case>(&mut self, case: &C, r: usize)
+        requires { Room self.old (field 3 (slice_index_or (rules_of (C.Case.meaning case.now)) r [])) }
+        ensures { Wrote self.old (field 3 (slice_index_or (rules_of (C.Case.meaning case.now)) r [])) self.new }
+    {
+        let len = case.rule_len(r);
+        self.put(&[3, 0, len as u8]);
+        for j in 0..len {
+            self.put(&[case.literal(r, j)]);
+        }
+    }
+
+    fn put_rules<C: Case>(&mut self, case: &C)
+        requires { Room self.old (rule_fields (rules_of (C.Case.meaning case.now))) }
+        ensures { Wrote self.old (rule_fields (rules_of (C.Case.meaning case.now))) self.new }
+    {
+        for r in 0..case.rules() {
+            self.put_rule(case, r);
+        }
+    }
+
+    fn put_case<C: Case>(&mut self, case: &C)
+        requires { Room self.old (encode_told (C.Case.meaning case.now)) }
+        ensures { Wrote self.old (encode_told (C.Case.meaning case.now)) self.new }
+    {
+        self.put_options(case.options() as u16);
+        self.put_amounts(case);
+        self.put_rules(case);
+        self.put(&[4, 0, 0]);
+    }
 }
 
 fn amount_len(l: u8, a: u32) -> usize
@@ -48,82 +93,28 @@ fn amount_len(l: u8, a: u32) -> usize
     if a == 0 { 0 } else { 8 }
 }
 
-fn put_amounts<C: Case>(case: &C, out: &mut [u8], from: usize) -> usize
-    requires { from + length (amount_fields 0 (amounts_of (C.Case.meaning case.now))) ≤ length out.old }
-    ensures value { result ≡ from + length (amount_fields 0 (amounts_of (C.Case.meaning case.now))) }
-    ensures after { out.new ≡ over from out.old (amount_fields 0 (amounts_of (C.Case.meaning case.now))) }
+fn rule_len<C: Case>(case: &C, r: usize) -> usize
+    ensures value { result ≡ length (field 3 (slice_index_or (rules_of (C.Case.meaning case.now)) r [])) }
+    ensures small { result ≤ 27 }
 {
-    let mut at = from;
-    for l in 0..2 * case.options() {
-        at = put_amount(out, at, l as u8, case.amount(l as u8));
-    }
-    at
+    3 + case.rule_len(r)
 }
 
-fn put_literals<C: Case>(case: &C, r: usize, out: &mut [u8], at: usize)
-    requires { at + length (slice_index_or (rules_of (C.Case.meaning case.now)) r []) ≤ length out.old }
-    ensures { out.new ≡ over at out.old (slice_index_or (rules_of (C.Case.meaning case.now)) r []) }
-{
-    for j in 0..case.rule_len(r) {
-        out[at + j] = case.literal(r, j);
-    }
-}
-
-fn put_rule<C: Case>(case: &C, r: usize, out: &mut [u8], at: usize) -> usize
-    requires { at + length (field 3 (slice_index_or (rules_of (C.Case.meaning case.now)) r [])) ≤ length out.old }
-    ensures value { result ≡ at + length (field 3 (slice_index_or (rules_of (C.Case.meaning case.now)) r [])) }
-    ensures after { out.new ≡ over at out.old (field 3 (slice_index_or (rules_of (C.Case.meaning case.now)) r [])) }
-{
-    let len = case.rule_len(r);
-    put(out, at, &[3, 0, len as u8]);
-    put_literals(case, r, out, at + 3);
-    at + 3 + len
-}
-
-fn put_rules<C: Case>(case: &C, out: &mut [u8], from: usize) -> usize
-    requires { from + length (rule_fields (rules_of (C.Case.meaning case.now))) ≤ length out.old }
-    ensures value { result ≡ from + length (rule_fields (rules_of (C.Case.meaning case.now))) }
-    ensures after { out.new ≡ over from out.old (rule_fields (rules_of (C.Case.meaning case.now))) }
-{
-    let mut at = from;
-    for r in 0..case.rules() {
-        at = put_rule(case, r, out, at);
-    }
-    at
-}
-
-fn put_case<C: Case>(case: &C, out: &mut [u8]) -> usize
-    requires { length (encode_told (C.Case.meaning case.now)) ≤ length out.old }
-    ensures value { result ≡ length (encode_told (C.Case.meaning case.now)) }
-    ensures after { out.new ≡ over 0 out.old (encode_told (C.Case.meaning case.now)) }
-{
-    put_options(out, case.options());
-    let from = put_amounts(case, out, 5);
-    let at = put_rules(case, out, from);
-    put(out, at, &[4, 0, 0]);
-    at + 3
-}
-
+// Two functions and no generic one, here and in rules_len: each is one chain, over other numbers and with another bound.
 fn amounts_len<C: Case>(case: &C) -> usize
     ensures value { result ≡ length (amount_fields 0 (amounts_of (C.Case.meaning case.now))) }
     ensures small { result ≤ 896 }
 {
-    let mut n = 0;
-    for l in 0..2 * case.options() {
-        n += amount_len(l as u8, case.amount(l as u8));
-    }
-    n
+    (0..2 * case.options() as u8)
+        .map(|l| amount_len(l, case.amount(l)))
+        .sum()
 }
 
 fn rules_len<C: Case>(case: &C) -> usize
     ensures value { result ≡ length (rule_fields (rules_of (C.Case.meaning case.now))) }
     ensures small { result ≤ 13824 }
 {
-    let mut n = 0;
-    for r in 0..case.rules() {
-        n += 3 + case.rule_len(r);
-    }
-    n
+    (0..case.rules()).map(|r| rule_len(case, r)).sum()
 }
 
 // How many bytes a case takes.
@@ -133,6 +124,7 @@ pub fn encoded_len<C: Case>(case: &C) -> usize
     5 + amounts_len(case) + rules_len(case) + 3
 }
 
+// What `write` does, apart from it: so the further clause of `write` is proved once, and not at each return here.
 fn write_bytes<C: Case>(case: &C, out: &mut [u8]) -> Result<usize, Refusal>
     ensures answers { result ≡ written (C.Case.meaning case.now) out.old }
     ensures leaves { out.new ≡ buffer_after (C.Case.meaning case.now) out.old }
@@ -143,11 +135,14 @@ fn write_bytes<C: Case>(case: &C, out: &mut [u8]) -> Result<usize, Refusal>
     if out.len() < encoded_len(case) {
         return Err(Refusal::ShortBuffer);
     }
-    Ok(put_case(case, out))
+    let mut cursor = Cursor { out, at: 0 };
+    cursor.put_case(case);
+    Ok(cursor.at)
 }
 
 // Writes the case and answers the length; the bytes after it stay. A refusal writes nothing. What is written reads back as
 // the case's meaning.
+#[tactic(auto, using(crate::proofs::Round::readable))]
 pub fn write<C: Case>(case: &C, out: &mut [u8]) -> Result<usize, Refusal>
     ensures answers { result ≡ written (C.Case.meaning case.now) out.old }
     ensures leaves { out.new ≡ buffer_after (C.Case.meaning case.now) out.old }

@@ -27,12 +27,11 @@ fn main(rt: HostRuntime) -> io::Result<()> {
     let mut copy = [0u8; BUFFER];
     let mut input = rt.stdin();
     let len = fill(&mut input, &mut buffer)?;
-    match inspect(&buffer[0..len], &mut copy) {
+    match inspect(&buffer[..len], &mut copy) {
         Ok(report) => {
             println!(rt; "{report}")?;
             if tariff {
-                let priced = report.tariff;
-                println!(rt; "{priced}")?;
+                println!(rt; "{}", report.tariff)?;
             }
             Ok(())
         }

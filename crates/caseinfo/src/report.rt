@@ -10,7 +10,7 @@ use cases::summary::Summary;
 use layers::tariff::Tariff;
 use std::fmt;
 
-// A file written again.
+// A file written again. The flag stands beside the result and not in it: the contract says it of a refused writing too.
 #[derive(Clone, Copy)]
 pub struct Again {
     // how many bytes were written, or why none were
@@ -38,19 +38,13 @@ pub fn inspect(bytes: &[u8], copy: &mut [u8]) -> Result<Report, FileRefusal>
     ensures answers { result ≡ report_of (parse bytes.now) bytes.now copy.old }
     ensures leaves { copy.new ≡ copy_after (parse bytes.now) bytes.now copy.old }
 {
-    let reading = FileCase::open(bytes);
-    if let Some(refusal) = reading.refusal {
-        return Err(refusal);
-    }
-    let summary = Summary::of(&reading.case);
+    let case = FileCase::open(bytes)?;
+    let summary = Summary::of(&case);
     let tariff = Priced {
-        summary: Summary::of(&Tariff::new(reading.case)),
+        summary: Summary::of(&Tariff::new(case)),
     };
-    let written = reading.case.rewrite(copy);
-    let equal = match written {
-        Ok(n) => &copy[0..n] == bytes,
-        Err(_) => false,
-    };
+    let written = case.rewrite(copy);
+    let equal = written.is_ok_and(|n| &copy[..n] == bytes);
     Ok(Report {
         summary,
         bytes: bytes.len(),

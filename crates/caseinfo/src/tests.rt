@@ -3,7 +3,7 @@ use super::*;
 use std::alloc::Global;
 use std::test::Fail;
 
-// Two options, four amounts, one rule.
+// Two options, four amounts, one rule. The files of trials write it out too: tests hand nothing to another crate.
 const TWO: &[u8; 45] =
     b"\x01\0\x02\0\x02\x02\0\x05\0\0\0\0\x05\x02\0\x05\x01\0\0\0\x01\x02\0\x05\x02\0\0\0\x02\x02\0\x05\x03\0\0\0\x03\x03\0\x02\0\x02\x04\0\0";
 

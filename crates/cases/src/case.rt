@@ -7,9 +7,6 @@ pub trait Case {
     // What the case means.
     ghost meaning: { Self → Meaning };
 
-    // Every value of the type keeps the limits.
-    ghost limits: { (x : Self) → Limited (meaning x) };
-
     fn oversize(&self) -> bool
         ensures { result ≡ is_oversize (meaning self.now) };
 
@@ -18,6 +15,8 @@ pub trait Case {
 
     fn rules(&self) -> usize
         ensures { result ≡ length (rules_of (meaning self.now)) };
+
+    // No Option below: what is answered where there is no such rule or literal is a number that the definitions of the questions name.
 
     // How many literals rule r has; 0 where there is no such rule.
     fn rule_len(&self, r: usize) -> usize
@@ -30,9 +29,13 @@ pub trait Case {
     // The amount of a literal; 0 where there is no such literal.
     fn amount(&self, l: u8) -> u32
         ensures { result ≡ amount_of (meaning self.now) l };
+
+    // The law of every case: it keeps the limits.
+    ghost limits: { (x : Self) → Limited (meaning x) };
 }
 
 // Outside its ranges every case answers 0, 255 and 0, and an oversize one tells no options and no rules.
+#[tactic(auto, using(crate::specs::Facts::Limits::outside))]
 pub fn silent_outside<C: Case>(case: &C)
     ensures { Outside (C.Case.meaning case.now) }
 {}

@@ -6,11 +6,12 @@ ghost use Rattle.cases.specs.Meanings.{rules_of};
 use crate::case::Case;
 
 // Whether the choice sets the literal. An option past its end counts as off.
+#[tactic(auto, unfolding(crate::specs::Choices::sets))]
 pub fn sets_literal(choice: &[bool], l: u8) -> bool
     ensures { result ≡ sets choice.now l }
 {
-    let v = l as usize / 2;
-    let on = if v < choice.len() { choice[v] } else { false };
+    // `is_set` of layers looks up the same way: no helper for both, as it is one call of the library
+    let on = choice.get(l as usize / 2).copied().unwrap_or(false);
     on == (l % 2 == 0)
 }
 
@@ -18,22 +19,12 @@ pub fn sets_literal(choice: &[bool], l: u8) -> bool
 pub fn keeps_rule<C: Case>(case: &C, r: usize, choice: &[bool]) -> bool
     ensures { result ≡ keeps (sets choice.now) (slice_index_or (rules_of (C.Case.meaning case.now)) r []) }
 {
-    for j in 0..case.rule_len(r) {
-        if sets_literal(choice, case.literal(r, j)) {
-            return true;
-        }
-    }
-    false
+    (0..case.rule_len(r)).any(|j| sets_literal(choice, case.literal(r, j)))
 }
 
 // Whether the choice keeps all rules of the case.
 pub fn keeps_rules<C: Case>(case: &C, choice: &[bool]) -> bool
     ensures { result ≡ keeps_all (sets choice.now) (rules_of (C.Case.meaning case.now)) }
 {
-    for r in 0..case.rules() {
-        if !keeps_rule(case, r, choice) {
-            return false;
-        }
-    }
-    true
+    (0..case.rules()).all(|r| keeps_rule(case, r, choice))
 }

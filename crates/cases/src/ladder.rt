@@ -18,7 +18,9 @@ pub struct Ladder {
 impl Ladder {
     // A ladder of so many steps; setting a step on has the amount `on`, setting it off the amount `off`.
     pub fn new(steps: u32, on: u32, off: u32) -> Ladder
-        ensures { (result.steps ≡ steps) × (result.on ≡ on) × (result.off ≡ off) }
+        ensures steps { result.steps ≡ steps }
+        ensures on { result.on ≡ on }
+        ensures off { result.off ≡ off }
     {
         Ladder { steps, on, off }
     }
@@ -41,15 +43,19 @@ impl Case for Ladder {
         }
     }
 
+    #[tactic(auto, using(crate::specs::Facts::Ladders::tells_rules))]
     fn rules(&self) -> usize {
         self.options().saturating_sub(1)
     }
 
+    #[tactic(auto, using(crate::specs::Facts::Ladders::tells_rule))]
     fn rule_len(&self, r: usize) -> usize {
         if r < self.rules() { 2 } else { 0 }
     }
 
+    #[tactic(auto, using(crate::specs::Facts::Ladders::few_rules, crate::specs::Facts::Ladders::tells_literal))]
     fn literal(&self, r: usize, j: usize) -> u8 {
+        // 255 and no Option: it is what `Case::literal` answers where there is none
         if r >= self.rules() {
             return 255;
         }
@@ -60,6 +66,7 @@ impl Case for Ladder {
         }
     }
 
+    #[tactic(auto, using(crate::specs::Facts::Ladders::tells_amount, crate::specs::Facts::Ladders::limited_ladder, crate::specs::Facts::Limits::amount_out))]
     fn amount(&self, l: u8) -> u32 {
         if l as usize >= 2 * self.options() {
             0

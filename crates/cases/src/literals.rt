@@ -3,6 +3,7 @@ ghost use Rattle.std.specs.Prelude.{◌≡◌};
 ghost use Rattle.cases.specs.Literals.{complement};
 
 // The literal that sets the same option the other way.
+#[tactic(auto, unfolding(crate::specs::Literals::complement))]
 pub fn opposite(l: u8) -> u8
     ensures { result ≡ complement l }
 {

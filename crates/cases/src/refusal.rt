@@ -5,25 +5,25 @@ ghost use Rattle.cases.specs.Refusals.{number_of};
 #[derive(Clone, Copy, PartialEq, Eq, Debug)]
 pub enum Refusal {
     // the case is too large to be told
-    Oversize,
+    Oversize = 11,
     // there are as many conditions, groups or wishes as can be held
-    Full,
+    Full = 12,
     // there is no condition to withdraw
-    NothingToWithdraw,
+    NothingToWithdraw = 13,
     // there is no best choice yet
-    NoBest,
+    NoBest = 14,
     // a group or a wish would bring too many options or rules
-    TooLarge,
+    TooLarge = 16,
     // a condition or a wish of too many literals
-    TooLong,
+    TooLong = 21,
     // a literal or an option that the case doesn't have
-    NoSuchLiteral,
+    NoSuchLiteral = 22,
     // the buffer is shorter than what is to be written
-    ShortBuffer,
+    ShortBuffer = 23,
     // a group of too few or too many options
-    WrongGroupSize,
+    WrongGroupSize = 24,
     // a group whose options don't rise
-    NotRising,
+    NotRising = 25,
 }
 
 impl Refusal {
@@ -31,17 +31,6 @@ impl Refusal {
     pub fn number(self) -> u8
         ensures { result ≡ number_of self }
     {
-        match self {
-            Refusal::Oversize => 11,
-            Refusal::Full => 12,
-            Refusal::NothingToWithdraw => 13,
-            Refusal::NoBest => 14,
-            Refusal::TooLarge => 16,
-            Refusal::TooLong => 21,
-            Refusal::NoSuchLiteral => 22,
-            Refusal::ShortBuffer => 23,
-            Refusal::WrongGroupSize => 24,
-            Refusal::NotRising => 25,
-        }
+        self as u8
     }
 }

@@ -20,36 +20,26 @@ pub struct Summary {
 fn charged_amounts<C: Case>(case: &C) -> usize
     ensures { result ≡ charged (amounts_of (C.Case.meaning case.now)) }
 {
-    let mut n = 0;
-    for l in 0..2 * case.options() {
-        if case.amount(l as u8) != 0 {
-            n += 1;
-        }
-    }
-    n
+    (0..2 * case.options())
+        .filter(|l| case.amount(*l as u8) != 0)
+        .count()
 }
 
 fn longest_rule<C: Case>(case: &C) -> usize
     ensures { result ≡ longest (rules_of (C.Case.meaning case.now)) }
 {
-    let mut most = 0;
-    for r in 0..case.rules() {
-        let len = case.rule_len(r);
-        if most < len {
-            most = len;
-        }
-    }
-    most
+    (0..case.rules())
+        .map(|r| case.rule_len(r))
+        .max()
+        .unwrap_or(0)
 }
 
 fn total_amount<C: Case>(case: &C) -> u64
     ensures { result ≡ sum (amounts_of (C.Case.meaning case.now)) }
 {
-    let mut total = 0;
-    for l in 0..2 * case.options() {
-        total += case.amount(l as u8) as u64;
-    }
-    total
+    (0..2 * case.options())
+        .map(|l| u64::from(case.amount(l as u8)))
+        .sum()
 }
 
 impl Summary {

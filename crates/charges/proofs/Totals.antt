@@ -1,32 +1,21 @@
--- The total of a list of literals, from the laws: a step of a loop over it, the charge of its members, and that its order does not matter.
-use Rattle.std.proofs.Common.{◌≡◌, ℕ, ◌+◌, ◌<◌, ◌≤◌, true, false, eqb, List, [], ◌∷◌, length, get_or, drop, sym, refl, ap, ◌∙◌, ⊎_elim, arith}
-use Rattle.std.proofs.lemmas.List.{at_drop_more, at_drop_all}
+-- The total of a list of literals, from the laws: a fold over it, the charge of its members, and that its order does not matter.
+use Rattle.std.proofs.Common.{◌≡◌, ℕ, ◌<◌, true, false, eqb, List, [], ◌∷◌, sym, refl, ap, ◌∙◌, ⊎_elim, arith}
+use Rattle.std.specs.List.{fold}
 use Rattle.std.proofs.lemmas.Bool.{cases_Bool, eqb-true}
 use Rattle.cases.specs.Meanings.{Sound}
 use Rattle.cases.specs.Literals.{members}
 use Rattle.charges.specs.Kinds.{Kind, Laws}
 use Rattle.charges.specs.Charges.{price_of, charge, total, count, Once, OrderFree}
-use Rattle.charges.proofs.Sums.{zero_first, sum_swap}
+use Rattle.charges.proofs.Sums.{sum_swap}
 use Rattle.charges.proofs.Sets.{charge_none, charge_insert}
 use Rattle.charges.proofs.Counts.{count_here, count_past, without, count_without, none_counted, head_exists, head_new, tail_once}
 
 module _ (K : Kind) (laws : Laws K) (s : Sound) where
-  pub total_none : (ls : List ℕ) (sum : K.charges) → sum ≡ K.zero → K.sum sum (total K s ls) ≡ total K s ls
-  total_none ls sum e = ap (λ (x : K.charges). K.sum x (total K s ls)) e ∙ zero_first K laws (total K s ls)
-
-  -- a loop over the list: the sum so far, with the total of what is left, makes one charge from turn to turn
-  module _ (ls : List ℕ) (i : ℕ) (sum all : K.charges) (so_far : K.sum sum (total K s (drop i ls)) ≡ all) where
-    pub total_more : (price next : K.charges) → i < length ls → price ≡ price_of K s (get_or ls i 0) → next ≡ K.sum sum price → K.sum next (total K s (drop (i + 1) ls)) ≡ all
-    unfolding total
-    total_more price next h e n =
-        ap (λ (x : K.charges). K.sum x (total K s (drop (i + 1) ls))) (n ∙ ap (K.sum sum) e)
-        ∙ laws.associative sum _ _
-        ∙ ap (K.sum sum) (sym (at_drop_more (total K s) ls i 0 h))
-        ∙ so_far
-
-    pub total_all : length ls ≤ i → sum ≡ all
-    unfolding total
-    total_all h = sym (laws.neutral sum) ∙ ap (K.sum sum) (sym (at_drop_all (total K s) ls i h)) ∙ so_far
+  -- a fold from the left, from the charge a on
+  pub total_fold : (a : K.charges) (ls : List ℕ) → fold (λ (c : K.charges) (l : ℕ). K.sum c (price_of K s l)) a ls ≡ K.sum a (total K s ls)
+  unfolding total
+  total_fold a [] = sym (laws.neutral a)
+  total_fold a (l ∷ ls) = total_fold (K.sum a (price_of K s l)) ls ∙ laws.associative a (price_of K s l) (total K s ls)
 
   pub total_members : (ls : List ℕ) → Once s.options ls → total K s ls ≡ charge K s (members ls)
   unfolding total members

@@ -6,7 +6,7 @@ use Rattle.charges.specs.declared.kinds.Ranked.{Ranked}
 
 -- The charge of two numbers; for one that is too great, the greatest number.
 unfoldable pub ranked_of : ℕ → ℕ → Ranked
-ranked_of l p = record { lost = min l (2 ^ 32 - 1); pence = min p (2 ^ 32 - 1); fits = (omega arith, omega arith) }
+ranked_of l p = record { lost = min l (2 ^ 32 - 1); pence = min p (2 ^ 32 - 1); lost_fits = omega arith; pence_fits = omega arith }
 
 -- The top 8 bits of an amount are guarantees lost, its low 24 bits are pence.
 abbrev pub ranked_price : ℕ → Ranked

@@ -22,6 +22,7 @@ pub trait Charge: Copy {
     fn sum(self, other: Self) -> Self
         ensures { result ≡ sum self other };
 
+    // No body here, though each kind's is `self <= other`: it would ask an order of each kind, and a law that ties it to `not_above`.
     fn not_above(self, other: Self) -> bool
         ensures { result ≡ not_above self other };
 

@@ -13,9 +13,5 @@ pub fn charge_of<C: Case, K: Charge>(case: &C, literals: &[u8]) -> K
     ensures charged { Once (contents (C.Case.meaning case.now)).options literals.now → result ≡ charge (kind_of K.Charge) (contents (C.Case.meaning case.now)) (members literals.now) }
     ensures orderless { OrderFree (kind_of K.Charge) (contents (C.Case.meaning case.now)) }
 {
-    let mut charge = K::zero();
-    for l in literals {
-        charge = charge.sum(K::price(case.amount(*l)));
-    }
-    charge
+    literals.iter().fold(K::zero(), |charge, l| charge.sum(K::price(case.amount(*l))))
 }

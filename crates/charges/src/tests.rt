@@ -7,11 +7,7 @@ use std::test::Fail;
 
 // A charge added to itself so many times over.
 fn doubled<K: Charge>(charge: K, times: u8) -> K {
-    let mut all = charge;
-    for _ in 0..times {
-        all = all.sum(all);
-    }
-    all
+    (0..times).fold(charge, |all, _| all.sum(all))
 }
 
 #[test]

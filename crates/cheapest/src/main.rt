@@ -1,3 +1,5 @@
+// Takes a case file from standard input, searches the tariff over it, and prints the verdict, the cheapest choice with its
+// charge, and the counts.
 #![tactic(auto)]
 
 use casefile::file::FileCase;
@@ -5,7 +7,6 @@ use cases::case::Case;
 use charges::kinds::Sum;
 use layers::tariff::Tariff;
 use search::search::Search;
-use search::verdict::Verdict;
 use std::io;
 use terminal::{BUFFER, fill};
 
@@ -13,27 +14,23 @@ fn main(rt: HostRuntime) -> io::Result<()> {
     let mut buffer = [0u8; BUFFER];
     let mut input = rt.stdin();
     let len = fill(&mut input, &mut buffer)?;
-    let reading = FileCase::open(&buffer[0..len]);
-    if let Some(refusal) = reading.refusal {
-        return println!(rt; "{refusal}");
-    }
-    let n = reading.case.options();
-    let mut s: Search<Tariff<FileCase>, Sum> = Search::new(Tariff::new(reading.case));
-    let Ok((_made, v)) = s.run(18446744073709551615) else {
+    let case = match FileCase::open(&buffer[..len]) {
+        Ok(case) => case,
+        Err(refusal) => return println!(rt; "{refusal}"),
+    };
+    let n = case.options();
+    let mut s: Search<Tariff<FileCase>, Sum> = Search::new(Tariff::new(case));
+    let Ok((_, v)) = s.run(u64::MAX) else {
         return Ok(());
     };
-    match v {
-        Verdict::Open => println!(rt; "open")?,
-        Verdict::Cheapest => println!(rt; "cheapest")?,
-        Verdict::Impossible => println!(rt; "impossible")?,
-    }
+    println!(rt; "{v}")?;
+    // an array, since `read` writes into a lent buffer; `n` of its marks are the choice
     let mut out = [0u8; 56];
     if let Ok(charge) = s.read(&mut out) {
+        // mark by mark: a struct with Display would be longer, for this one use
         print!(rt; "choice ")?;
-        for v in 0..56usize {
-            if v < n {
-                print!(rt; "{}", out[v])?;
-            }
+        for on in out.iter().take(n) {
+            print!(rt; "{on}")?;
         }
         println!(rt; "")?;
         println!(rt; "charge {charge}")?;

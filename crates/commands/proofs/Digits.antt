@@ -1,8 +1,8 @@
 -- A number read digit by digit and cut off on the way is the number cut off at the end.
-use Rattle.std.proofs.Common.{◌≡◌, ℕ, ◌+◌, ◌-◌, ◌*◌, ◌<◌, ◌≤◌, true, false, cond, leb, ◌⊎◌, List, [], ◌∷◌, length, get_or, drop, Some, None, sym, refl, ap, ◌∙◌, inl, inr, arith}
+use Rattle.std.proofs.Common.{◌≡◌, ℕ, ◌+◌, ◌-◌, ◌*◌, ◌<◌, ◌≤◌, true, false, cond, leb, List, [], ◌∷◌, length, get_or, drop, Some, None, sym, refl, ap, ◌∙◌, arith}
 use Rattle.std.specs.Option.{option_map}
 use Rattle.std.proofs.lemmas.List.{at_drop_more}
-use Rattle.std.proofs.lemmas.Bool.{cond-true, cond-false, and_from, and_left, and_right, le-leb, lt-leb}
+use Rattle.std.proofs.lemmas.Bool.{cond-true, and_from, le-leb}
 use Rattle.commands.specs.Numbers.{is_digit, digits_after, number}
 use Rattle.commands.specs.Inner.Capping.{capped}
 
@@ -24,13 +24,6 @@ digit_first n b xs low high =
 
 pub digit_more : (n i : ℕ) (xs : List ℕ) → i < length xs → 48 ≤ get_or xs i 0 → get_or xs i 0 ≤ 57 → option_map capped (digits_after n (drop i xs)) ≡ option_map capped (digits_after (capped (n * 10 + (get_or xs i 0 - 48))) (drop (i + 1) xs))
 digit_more n i xs lt low high = at_drop_more (λ ys. option_map capped (digits_after n ys)) xs i 0 lt ∙ digit_first n (get_or xs i 0) (drop (i + 1) xs) low high
-
-no_digit : (n b : ℕ) (xs : List ℕ) → (b < 48) ⊎ (57 < b) → digits_after n (b ∷ xs) ≡ None
-no_digit n b xs (inl h) = cond-false (is_digit b) (digits_after (n * 10 + (b - 48)) xs) None (and_left (leb 48 b) (leb b 57) (lt-leb 48 b h))
-no_digit n b xs (inr h) = cond-false (is_digit b) (digits_after (n * 10 + (b - 48)) xs) None (and_right (leb 48 b) (leb b 57) (lt-leb b 57 h))
-
-pub no_digit_at : (n i : ℕ) (xs : List ℕ) → i < length xs → (get_or xs i 0 < 48) ⊎ (57 < get_or xs i 0) → option_map capped (digits_after n (drop i xs)) ≡ None
-no_digit_at n i xs lt h = at_drop_more (λ ys. option_map capped (digits_after n ys)) xs i 0 lt ∙ ap (option_map capped) (no_digit n (get_or xs i 0) (drop (i + 1) xs) h)
 
 pub number_full : (xs : List ℕ) → 0 < length xs → number xs ≡ digits_after 0 xs
 number_full [] h = let no : ⊥ = omega arith in elim no [ ]

@@ -1,9 +1,14 @@
 -- A line split behind its first word.
-use Rattle.std.proofs.Common.{◌≡◌, ℕ, true, false, List, [], ◌∷◌, ◌++◌, take, drop, sym, refl, ap, ◌∙◌, subst, inl, inr, append_assoc, append-nil, one-add}
+use Rattle.std.proofs.Common.{◌≡◌, ℕ, true, false, List, [], ◌∷◌, ◌++◌, take, drop, sym, refl, ap, ◌∙◌, subst, inl, inr, append_assoc, append-nil, one-add, ◌<◌, length, arith}
 use Rattle.std.specs.List.{prefix_len}
 use Rattle.std.proofs.lemmas.Bool.{cases_Bool}
 use Rattle.commands.specs.Lines.{is_space, ended, words_after, words}
-use Rattle.commands.specs.Inner.Splitting.{in_word, begins}
+use Rattle.commands.specs.Inner.Splitting.{in_word}
+
+-- The words, by the first and those behind it; an empty first word says that there is none.
+abbrev pub begins : List ℕ → List (List ℕ) → List (List ℕ)
+begins [] more = []
+begins (b ∷ word) more = (b ∷ word) ∷ more
 
 abbrev pub trimmed : List ℕ → List ℕ
 trimmed xs = drop (prefix_len is_space xs) xs
@@ -44,3 +49,15 @@ trimmed_words (b ∷ xs) =
       | inl e ↦ ap words (trimmed_yes b xs e) ∙ (trimmed_words xs ∙ rw e refl)
       | inr e ↦ ap words (trimmed_no b xs e)
     ]
+
+-- The first word ends at place m of the part from place n on.
+pub split : (xs part : List ℕ) (n m : ℕ) → n ≡ prefix_len is_space xs → part ≡ drop n xs → m ≡ prefix_len in_word part → words xs ≡ begins (take m part) (words (drop m part))
+split xs part n m en ep em =
+    let p : part ≡ trimmed xs = ep ∙ ap (λ k. drop k xs) en in
+    let s = trimmed_splits xs in
+    let w = trimmed_words xs in
+    cc
+
+pub begins_some : (word : List ℕ) (more : List (List ℕ)) → 0 < length word → begins word more ≡ word ∷ more
+begins_some [] more h = let no : ⊥ = omega arith in elim no [ ]
+begins_some (b ∷ word) more h = refl

@@ -1,5 +1,5 @@
 -- The words of a line: what spaces cut it into. Spaces at either end, and several between two words, do not matter.
-use Rattle.std.specs.Prelude.{ℕ, Bool, true, false, cond, List, [], ◌∷◌, ◌++◌, ◌==◌}
+use Rattle.std.specs.Prelude.{ℕ, Bool, cond, List, [], ◌∷◌, ◌++◌, ◌==◌}
 
 abbrev pub is_space : ℕ → Bool
 is_space b = b == 32
@@ -16,7 +16,3 @@ words_after word (b ∷ line) = cond (is_space b) (ended word (words_after [] li
 
 abbrev pub words : List ℕ → List (List ℕ)
 words line = words_after [] line
-
-abbrev pub no_words : List (List ℕ) → Bool
-no_words [] = true
-no_words (word ∷ more) = false

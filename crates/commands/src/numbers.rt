@@ -4,11 +4,11 @@ ghost use Rattle.std.specs.Option.{option_map};
 ghost use Rattle.commands.specs.Numbers.{number, budget, literal};
 ghost use Rattle.commands.specs.Inner.Capping.{capped};
 
-// One more than the largest budget: what every number above is read as.
-const ABOVE: u128 = 18446744073709551616;
+// One more than the largest budget: what every number above is read as. A cap and no error: a budget refuses it, and a literal keeps it.
+const ABOVE: u128 = 1 << 64;
 
-// The literal that no case has.
-const NO_LITERAL: u128 = 255;
+// The literal that no case has. A number and no Option: the definition of a line keeps 255 for it.
+const NO_LITERAL: u8 = 255;
 
 // What the digits write, but never above that; nothing, where the word is no number.
 fn capped_number(word: &[u8]) -> Option<u128>
@@ -17,12 +17,13 @@ fn capped_number(word: &[u8]) -> Option<u128>
     if word.is_empty() {
         return None;
     }
+    // digit by digit: `parse` takes a plus sign and refuses what is too large, and a call does neither
     let mut n: u128 = 0;
     for b in word {
-        if *b < 48 || *b > 57 {
+        if !b.is_ascii_digit() {
             return None;
         }
-        n = ABOVE.min(n * 10 + u128::from(*b - 48));
+        n = ABOVE.min(n * 10 + u128::from(*b - b'0'));
     }
     Some(n)
 }
@@ -31,8 +32,7 @@ fn capped_number(word: &[u8]) -> Option<u128>
 pub(crate) fn read_budget(word: &[u8]) -> Option<u64>
     ensures { result ≡ budget word.now }
 {
-    let n = capped_number(word)?;
-    if n < ABOVE { Some(n as u64) } else { None }
+    u64::try_from(capped_number(word)?).ok()
 }
 
 // A number, with 255 for every one above.
@@ -40,5 +40,5 @@ pub(crate) fn read_literal(word: &[u8]) -> Option<u8>
     ensures { result ≡ literal word.now }
 {
     let n = capped_number(word)?;
-    Some(NO_LITERAL.min(n) as u8)
+    Some(u8::try_from(n).unwrap_or(NO_LITERAL))
 }

@@ -2,42 +2,34 @@
 ghost use Rattle.std.specs.Prelude.{◌≡◌, ◌<◌, ◌≤◌, false, [], ◌∷◌, ◌++◌, length, MatchResult, OnOk, slice_index_or};
 ghost use Rattle.cases.specs.Meanings.{is_oversize};
 ghost use Rattle.layers.specs.Rows.{past_all};
-ghost use Rattle.layers.specs.RowViews.{items_of};
-ghost use Rattle.groups.specs.Groups.{grouped, groups_fit, group_room, group_rules, group_check};
+ghost use Rattle.arrayvec.specs.ArrayVec.{array_vec_len};
+ghost use Rattle.groups.specs.Groups.{grouped, group_rules, group_check};
 ghost use Rattle.groups.specs.Facts.Groups.{limited_grouped};
 ghost use Rattle.groups.specs.Facts.GroupLayers.{groups_of};
 
 use crate::pairs::{pair_count, pair_literal};
 use crate::rising::is_rising;
 use crate::state::Groups;
+use arrayvec::ArrayVec;
 use cases::case::Case;
 use cases::limits::MOST_RULES;
 use cases::refusal::Refusal;
-use layers::lists::{larger, past_all};
+use layers::lists::past_all;
 use layers::row::Row;
-
-const MOST_GROUPS: usize = 4;
 
 const SMALLEST_GROUP: usize = 2;
 
 const LARGEST_GROUP: usize = 8;
 
-// Whether a case of so many options and rules has the options of the groups, and leaves room for so many pairs.
-fn groups_fit(pairs: usize, reach: usize, options: usize, rules: usize) -> bool
-    ensures { result ≡ groups_fit pairs reach options rules }
-{
-    pairs <= MOST_RULES && rules <= MOST_RULES - pairs && reach <= options
-}
-
 impl<C: Case> Groups<C> {
+    // Each layer has a `new` and a `below` of its own: they name its fields, so a trait would only say them twice.
     pub fn new(below: C) -> Groups<C>
-        ensures { (result.below ≡ below) × (groups_of result ≡ []) }
+        ensures below { result.below ≡ below }
+        ensures none { groups_of result ≡ [] }
     {
         Groups {
             below,
-            groups: [Row::empty(); 4],
-            held: 0,
-            reach: 0,
+            groups: ArrayVec::new(),
             pairs: 0,
         }
     }
@@ -50,6 +42,8 @@ impl<C: Case> Groups<C> {
     }
 
     // Adds a group: of its options no two are to be on.
+    // `below` is an effect of the call and no fact of a value, so it is a clause here and in `hold`, and no invariant.
+    #[tactic(auto, using(crate::proofs::GroupChecks::still_sound))]
     pub fn add(&mut self, options: &[u8]) -> Result<(), Refusal>
         ensures answers { result ≡ group_check (groups_of self.old) (C.Case.meaning self.old.below) options.now }
         ensures adds { MatchResult result (λ _. groups_of self.new ≡ groups_of self.old ++ options.now ∷ []) (λ _. self.new ≡ self.old) }
@@ -66,15 +60,13 @@ impl<C: Case> Groups<C> {
     {
         if self.oversize() {
             Err(Refusal::Oversize)
-        } else if options.len() < SMALLEST_GROUP {
-            Err(Refusal::WrongGroupSize)
-        } else if options.len() > LARGEST_GROUP {
+        } else if !(SMALLEST_GROUP..=LARGEST_GROUP).contains(&options.len()) {
             Err(Refusal::WrongGroupSize)
         } else if past_all(options) > self.below.options() {
             Err(Refusal::NoSuchLiteral)
         } else if !is_rising(options) {
             Err(Refusal::NotRising)
-        } else if self.held >= MOST_GROUPS {
+        } else if self.groups.is_full() {
             Err(Refusal::Full)
         } else if self.rules() + pair_count(options.len()) > MOST_RULES {
             Err(Refusal::TooLarge)
@@ -82,44 +74,32 @@ impl<C: Case> Groups<C> {
             Ok(())
         }
     }
-}
 
-impl<C> Groups<C> {
+    // `short` and `small` are what `Row::of` asks, handed on: no plainer from a row that `check` makes, as a refusal makes none.
     fn hold(&mut self, options: &[u8])
-        requires { (self.old.held < 4) × ((length options.now ≤ 16) × ((past_all options.now ≤ 128) × (self.old.pairs ≤ 512))) }
+        requires room { array_vec_len self.old.groups < 4 }
+        requires short { length options.now ≤ 16 }
+        requires small { past_all options.now ≤ 128 }
+        requires few { self.old.pairs ≤ 512 }
+        requires fits { is_oversize (grouped (groups_of self.old ++ options.now ∷ []) (C.Case.meaning self.old.below)) ≡ false }
         ensures adds { groups_of self.new ≡ groups_of self.old ++ options.now ∷ [] }
         ensures below { self.new.below ≡ self.old.below }
     {
-        let at = self.held;
-        self.groups[at] = Row::of(options);
-        self.held = at + 1;
-        self.reach = larger(self.reach, past_all(options));
+        self.groups.push(Row::of(options));
         self.pairs += pair_count(options.len());
     }
 
-    fn has_room(&self, options: usize, rules: usize) -> bool
-        ensures { result ≡ group_room (groups_of self.now) options rules }
-    {
-        groups_fit(self.pairs, self.reach, options, rules)
-    }
-
-    fn group(&self, i: usize) -> Row
-        requires { i < self.now.held }
-        ensures { items_of result ≡ slice_index_or (groups_of self.now) i [] }
-    {
-        self.groups[i]
-    }
-
     // The literal at place j of rule k that the groups add; 255 where there is none.
+    // 255 and no Option: it is handed on as `Case::literal` answers it.
+    // It counts down: a group's rules are counted and not listed, so a chain would have to make each of them, and is no plainer.
     fn added_literal(&self, k: usize, j: usize) -> u8
         ensures { result ≡ slice_index_or (slice_index_or (group_rules (groups_of self.now)) k []) j 255 }
     {
         let mut left = k;
-        for i in 0..self.held {
-            let group = self.group(i);
+        for group in self.groups.iter() {
             let pairs = pair_count(group.len());
             if left < pairs {
-                return pair_literal(&group, left, j);
+                return pair_literal(group, left, j);
             }
             left -= pairs;
         }
@@ -133,29 +113,18 @@ impl<C: Case> Case for Groups<C> {
     ghost limits = { λ x. limited_grouped (groups_of x) (C.Case.meaning x.below) (C.Case.limits x.below) };
 
     fn oversize(&self) -> bool {
-        self.below.oversize() || !self.has_room(self.below.options(), self.below.rules())
+        self.below.oversize()
     }
 
     fn options(&self) -> usize {
-        if self.oversize() {
-            0
-        } else {
-            self.below.options()
-        }
+        self.below.options()
     }
 
     fn rules(&self) -> usize {
-        if self.oversize() {
-            0
-        } else {
-            self.below.rules() + self.pairs
-        }
+        self.below.rules() + self.pairs
     }
 
     fn rule_len(&self, r: usize) -> usize {
-        if self.oversize() {
-            return 0;
-        }
         let rules = self.below.rules();
         if r < rules {
             self.below.rule_len(r)
@@ -167,9 +136,6 @@ impl<C: Case> Case for Groups<C> {
     }
 
     fn literal(&self, r: usize, j: usize) -> u8 {
-        if self.oversize() {
-            return 255;
-        }
         let rules = self.below.rules();
         if r < rules {
             self.below.literal(r, j)
@@ -179,10 +145,6 @@ impl<C: Case> Case for Groups<C> {
     }
 
     fn amount(&self, l: u8) -> u32 {
-        if self.oversize() {
-            0
-        } else {
-            self.below.amount(l)
-        }
+        self.below.amount(l)
     }
 }

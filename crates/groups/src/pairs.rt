@@ -8,35 +8,37 @@ use layers::row::Row;
 
 pub fn pair_count(n: usize) -> usize
     requires { n ≤ 16 }
-    ensures { (result ≡ pairs_among n) × (result ≤ 128) }
+    ensures value { result ≡ pairs_among n }
+    ensures few { result ≤ 128 }
 {
     (n * n - n) / 2
 }
 
 // The literal at place j of the rule that options a and b are not both on.
+// 255 and no Option: it is handed on as `Case::literal` answers it.
+// `not_both_literal` of layers has much the same line: shared, it would be public, and its `requires` with it.
 fn not_together_literal(a: u8, b: u8, j: usize) -> u8
-    requires { (a < 128) × (b < 128) }
+    requires first { a < 128 }
+    requires second { b < 128 }
     ensures { result ≡ slice_index_or (not_together a b) j 255 }
 {
-    match j {
-        0 => 2 * a + 1,
-        1 => 2 * b + 1,
-        _ => 255,
-    }
+    [2 * a + 1, 2 * b + 1].get(j).copied().unwrap_or(255)
 }
 
 // The literal at place j of the rule of pair k of the group; 255 where there is none.
+// 255 and no Option: it is handed on as `Case::literal` answers it.
+// It counts down: the pairs are counted and not listed, so a chain would have to make each of them, and is no plainer.
 pub fn pair_literal(group: &Row, k: usize, j: usize) -> u8
     ensures { result ≡ slice_index_or (slice_index_or (pair_rules (items_of group.now)) k []) j 255 }
 {
-    let len = group.len();
+    let mut rest = group.items();
     let mut left = k;
-    for first in 0..len {
-        let after = len - first - 1;
-        if left < after {
-            return not_together_literal(group.at(first), group.at(first + 1 + left), j);
+    while let Some((first, after)) = rest.split_first() {
+        if left < after.len() {
+            return not_together_literal(*first, after[left], j);
         }
-        left -= after;
+        left -= after.len();
+        rest = after;
     }
     255
 }

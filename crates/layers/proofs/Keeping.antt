@@ -4,6 +4,7 @@ use mathlib.Core.Bool.{beq}
 use Rattle.std.proofs.lemmas.Bool.{and_parts, and_from}
 use Rattle.cases.specs.Literals.{Literals}
 use Rattle.cases.specs.Choices.{sets, keeps, keeps_all}
+use Rattle.cases.proofs.Tests.{beq_true, beq_false}
 use Rattle.layers.specs.Apart.{not_together}
 use Rattle.layers.specs.Readings.{is_on}
 
@@ -47,14 +48,6 @@ module _ (S R : Literals) where
   kept_alike (x ∷ xs) h = ap₂ (λ (a b : Bool). a && b) (rule_alike x (h 0)) (kept_alike xs (λ i. h (suc i)))
 
 module _ (c : List Bool) where
-  beq_true : (b : Bool) → beq b true ≡ b
-  beq_true true = refl
-  beq_true false = refl
-
-  beq_false : (b : Bool) → beq b false ≡ not b
-  beq_false true = refl
-  beq_false false = refl
-
   pub sets_on : (v : ℕ) → sets c (2 * v) ≡ is_on c v
   unfolding sets
   sets_on v =
@@ -74,9 +67,9 @@ module _ (c : List Bool) where
   either_off a b = ap₂ (λ (p q : Bool). p || (q || false)) (sets_off a) (sets_off b)
 
   one_off : (p q : Bool) → (not p || (not q || false)) ≡ true → p ≡ true → q ≡ true → ⊥
-  one_off true true h e f = let z : ◌≡◌ {A = ℕ} 0 1 = cc in absurd (omega arith)
-  one_off true false h e f = let z : ◌≡◌ {A = ℕ} 0 1 = cc in absurd (omega arith)
-  one_off false q h e f = let z : ◌≡◌ {A = ℕ} 0 1 = cc in absurd (omega arith)
+  one_off true true h e f = cc
+  one_off true false h e f = cc
+  one_off false q h e f = cc
 
   off_one : (p q : Bool) → (p ≡ true → q ≡ true → ⊥) → (not p || (not q || false)) ≡ true
   off_one true true h = absurd (h refl refl)

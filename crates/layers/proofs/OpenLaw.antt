@@ -7,6 +7,7 @@ use Rattle.cases.specs.Counted.{counted}
 use Rattle.cases.specs.Facts.Counted.{length-counted, counted_in, counted_out}
 use Rattle.cases.specs.Meanings.{Meaning, is_oversize, options_of, rules_of}
 use Rattle.cases.specs.Limits.{Limited}
+use Rattle.cases.proofs.Tests.{complement_on}
 use Rattle.layers.specs.declared.setting.Setting.TheVariants.{On, Off, Open}
 use Rattle.layers.specs.Apart.{not_together}
 use Rattle.layers.specs.Opens.{mark, not_both, opened}
@@ -41,10 +42,6 @@ even l h = (omega arith, omega arith)
 odd : (l : ℕ) → 1 ≤ l % 2 → (l ≡ 2 * (l / 2) + 1) × (complement l ≡ 2 * (l / 2))
 unfolding complement
 odd l h = (omega arith, omega arith)
-
-other : (v : ℕ) → complement (2 * v) ≡ 2 * v + 1
-unfolding complement
-other v = omega arith
 
 apart_pairs : (S : Literals) (n : ℕ) → ((l : ℕ) → S l ≡ true → l < 2 * n) → ((v : ℕ) → v < n → S (2 * v) ≡ true → S (2 * v + 1) ≡ true → ⊥) → Partial n S
 apart_pairs S n inside apart = record {
@@ -93,7 +90,7 @@ module _ (m : Meaning) (h : Limited m) (fine : is_oversize (opened m) ≡ false)
         (λ v l.
         let r : v < n = rw (length-counted not_both n) at l in
         subst (λ x. keeps (sets marks) x ≡ true) (sym (counted_in not_both n v [] r ∙ both_marks v))
-        (apart_kept marks (2 * v) (2 * v + 1) (λ a b. p.not_both (2 * v) (sym (marks_are (2 * v)) ∙ a) (ap S (other v) ∙ sym (marks_are (2 * v + 1)) ∙ b))))))
+        (apart_kept marks (2 * v) (2 * v + 1) (λ a b. p.not_both (2 * v) (sym (marks_are (2 * v)) ∙ a) (ap S (complement_on v) ∙ sym (marks_are (2 * v + 1)) ∙ b))))))
 
     marks_read : (l : ℕ) → read_down (options_of m) marks l ≡ S l
     unfolding read_down
@@ -134,7 +131,7 @@ module _ (m : Meaning) (h : Limited m) (fine : is_oversize (opened m) ≡ false)
         (λ k.
         cond-false (eqb (l % 2) 0) (is_set_on (get_or (settings n S) v Open)) (is_set_off (get_or (settings n S) v Open)) (ne_eqb (l % 2) 0 (λ z. omega arith))
         ∙ ap is_set_off at
-        ∙ off_setting (S (2 * v)) (S (2 * v + 1)) (λ a b. p.not_both (2 * v) a (ap S (other v) ∙ b))
+        ∙ off_setting (S (2 * v)) (S (2 * v + 1)) (λ a b. p.not_both (2 * v) a (ap S (complement_on v) ∙ b))
         ∙ ap S (sym (odd l k).0))
         (cases_lt (l % 2) 1)
 

@@ -6,7 +6,7 @@ ghost use Rattle.layers.specs.Opens.{opened, open_room, not_both};
 ghost use Rattle.layers.specs.Facts.Opens.{limited_opened};
 ghost use Rattle.layers.specs.Readings.{read_faults, read_down, settings};
 
-use crate::marks::write_settings;
+use crate::marks::{read_front, setting};
 use crate::setting::Setting;
 use cases::case::Case;
 use cases::limits::{MOST_OPTIONS, MOST_RULES};
@@ -18,6 +18,7 @@ pub struct Open<C> {
 }
 
 impl<C: Case> Open<C> {
+    // Each layer has a `new` and a `below` of its own: they name its fields, so a trait would only say them twice.
     pub fn new(below: C) -> Open<C>
         ensures { result.below ≡ below }
     {
@@ -36,19 +37,13 @@ impl<C: Case> Open<C> {
         ensures answers { result ≡ unless_refused (read_faults (opened (C.Case.meaning self.now.below)) (C.Case.meaning self.now.below) (length into.old)) (options_of (C.Case.meaning self.now.below)) }
         ensures writes { MatchResult result (λ n. into.new ≡ settings n (read_down n choice.now) ++ drop n into.old) (λ _. into.new ≡ into.old) }
     {
-        if self.oversize() {
-            return Err(Refusal::Oversize);
-        }
-        let options = self.below.options();
-        if into.len() < options {
-            return Err(Refusal::ShortBuffer);
-        }
-        write_settings(choice, options, into);
-        Ok(options)
+        read_front(self, self.below.options(), |v| setting(choice, v), into)
     }
 }
 
 // Whether two options for each option below, and a rule more for each, are within the limits.
+// Each method asks it first: what they answer where there is no room differs, so one guard for all is no plainer.
+// Nor is an Option of the two sizes: `oversize`, `options` and `amount` need not both of them after the test.
 fn has_room(options: usize, rules: usize) -> bool
     ensures { result ≡ open_room options rules }
 {
@@ -56,15 +51,14 @@ fn has_room(options: usize, rules: usize) -> bool
 }
 
 // The literal at place j of the rule that option v below is not both on and off.
+// 255 and no Option: it is handed on as `Case::literal` answers it.
+// The ladder and the groups have much the same line: shared, it would be public, and its `requires` with it.
 fn not_both_literal(v: usize, j: usize) -> u8
     requires { v < 56 }
     ensures { result ≡ slice_index_or (not_both v) j 255 }
 {
-    match j {
-        0 => (4 * v + 1) as u8,
-        1 => (4 * v + 3) as u8,
-        _ => 255,
-    }
+    let v = v as u8;
+    [4 * v + 1, 4 * v + 3].get(j).copied().unwrap_or(255)
 }
 
 impl<C: Case> Case for Open<C> {

@@ -1,13 +1,16 @@
 // A short list of literals or options.
-ghost use Rattle.std.specs.Prelude.{◌≡◌, ℕ, ◌<◌, ◌≤◌, length, slice_index};
+ghost use Rattle.std.specs.Prelude.{◌≡◌, ◌≤◌};
+ghost use Rattle.layers.specs.Rows.{past_all};
+ghost use Rattle.arrayvec.specs.ArrayVec.{array_vec_len};
 
-#[derive(Clone, Copy)]
+use arrayvec::ArrayVec;
+
+#[derive(Drop)]
 pub struct Row {
-    items: [u8; 16],
-    len: usize,
-    ghost full: { length items ≡ 16 },
-    ghost short: { len ≤ 16 },
-    ghost small: { (j : ℕ) → slice_index items j < 128 },
+    items: ArrayVec<u8, 16>,
+    // a clause sees the items and not how many fit, so this says it
+    ghost short: { array_vec_len items ≤ 16 },
+    ghost small: { past_all items.items ≤ 128 },
 }
 
 mod reads;

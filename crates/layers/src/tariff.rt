@@ -13,6 +13,7 @@ pub struct Tariff<C> {
 }
 
 impl<C: Case> Tariff<C> {
+    // Each layer has a `new` and a `below` of its own: they name its fields, so a trait would only say them twice.
     pub fn new(below: C) -> Tariff<C>
         ensures { result.below ≡ below }
     {
@@ -53,11 +54,6 @@ impl<C: Case> Case for Tariff<C> {
     }
 
     fn amount(&self, l: u8) -> u32 {
-        let a = self.below.amount(l);
-        if a < 15 {
-            CLASSES[a as usize]
-        } else {
-            CLASSES[15]
-        }
+        CLASSES[self.below.amount(l).min(15) as usize]
     }
 }

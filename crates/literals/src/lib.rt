@@ -12,6 +12,7 @@ pub struct LiteralSet {
 // How many literals a set tells apart.
 pub const SPAN: u8 = 128;
 
+// Each contract says of each number whether it is a member: a Model asks for a coded value, and a function of numbers is none.
 impl LiteralSet {
     pub fn empty() -> LiteralSet
         ensures { (k : ℕ) → member result k ≡ false }
@@ -36,7 +37,7 @@ impl LiteralSet {
         ensures { result ≡ member self.now l }
     {
         let bits = self.bits;
-        l < SPAN && (bits >> l) % 2 == 1
+        l < SPAN && (bits >> l) & 1 == 1
     }
 
     // One literal more. The set has no place for one past its span, and stays as it is.
@@ -44,7 +45,7 @@ impl LiteralSet {
         ensures { (k : ℕ) → member self.new k ≡ ((k == l && nat_lt k 128) || member self.old k) }
     {
         if l < SPAN {
-            self.bits = self.bits | (1 << l);
+            self.bits |= 1 << l;
         }
     }
 
@@ -53,14 +54,14 @@ impl LiteralSet {
     {
         let bits = self.bits;
         if l < SPAN {
-            self.bits = bits ^ (bits & (1 << l));
+            self.bits = bits & !(1 << l);
         }
     }
 
     pub fn union(&mut self, other: &LiteralSet)
         ensures { (k : ℕ) → member self.new k ≡ (member self.old k || member other.now k) }
     {
-        self.bits = self.bits | other.bits;
+        self.bits |= other.bits;
     }
 
     // The literals that are in both.
@@ -77,7 +78,7 @@ impl LiteralSet {
         ensures { (k : ℕ) → member result k ≡ (not (member other.now k) && member self.now k) }
     {
         LiteralSet {
-            bits: self.bits ^ (self.bits & other.bits),
+            bits: self.bits & !other.bits,
         }
     }
 
@@ -92,12 +93,8 @@ impl LiteralSet {
     pub fn only(&self) -> Option<u8>
         ensures { MatchOption result ((l : ℕ) → OnlyOne self.now l → ⊥) (λ l. OnlyOne self.now l) }
     {
-        if self.bits == 0 {
-            return None;
-        }
-        let top = 127 - self.bits.leading_zeros();
-        if self.bits == 1 << top {
-            Some(top as u8)
+        if self.bits.is_power_of_two() {
+            self.first()
         } else {
             None
         }
@@ -107,9 +104,6 @@ impl LiteralSet {
     pub fn first(&self) -> Option<u8>
         ensures { MatchOption result ((k : ℕ) → member self.now k ≡ false) (λ l. Lowest self.now l) }
     {
-        if self.bits == 0 {
-            return None;
-        }
-        Some(self.bits.trailing_zeros() as u8)
+        (self.bits != 0).then(|| self.bits.trailing_zeros() as u8)
     }
 }

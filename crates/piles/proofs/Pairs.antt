@@ -1,16 +1,12 @@
 -- The charge of a set, option by option, where setting an option off is free; from the laws.
-use Rattle.std.proofs.Common.{◌≡◌, ℕ, suc, ◌+◌, ◌*◌, ◌/◌, ◌%◌, Bool, true, false, cond, List, get_or, refl, subst, ⊎_elim, arith}
-use mathlib.Core.Bool.{beq}
+use Rattle.std.proofs.Common.{◌≡◌, ℕ, suc, ◌+◌, ◌*◌, ◌/◌, ◌%◌, Bool, true, false, cond, List, get_or, subst, ⊎_elim, arith}
 use Rattle.std.proofs.lemmas.Bool.{cases_Bool}
 use Rattle.cases.specs.Literals.{Literals}
 use Rattle.cases.specs.Choices.{sets}
 use Rattle.cases.specs.Meanings.{Sound}
+use Rattle.cases.proofs.Tests.{beq_true}
 use Rattle.charges.specs.Kinds.{Kind, Laws}
 use Rattle.charges.specs.Charges.{price_of, charge_below}
-
-beq_true : (b : Bool) → beq b true ≡ b
-beq_true true = refl
-beq_true false = refl
 
 -- a choice sets the literal of an option's being on just if it is on
 pub sets_on : (c : List Bool) (v : ℕ) → sets c (2 * v) ≡ get_or c v false

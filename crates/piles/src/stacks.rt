@@ -10,41 +10,37 @@ use wishes::state::Wishes;
 
 // Whether rule r is `literals`, and has nothing after them.
 fn has_rule<C: Case>(case: &C, r: usize, literals: &[u8]) -> bool {
-    for (j, l) in literals.iter().enumerate() {
-        if case.literal(r, j) != *l {
-            return false;
-        }
-    }
-    case.rule_len(r) == literals.len() && case.literal(r, literals.len()) == 255
+    literals
+        .iter()
+        .enumerate()
+        .all(|(j, l)| case.literal(r, j) == *l)
+        && case.rule_len(r) == literals.len()
+        && case.literal(r, literals.len()) == 255
 }
 
 // Whether the rules are those told, each as its length and its literals, and no rule comes after them.
 fn has_rules<C: Case>(case: &C, rules: &[u8]) -> bool {
     let mut rest = rules;
+    // a case tells its rules by number, so there is no slice to go over
     for r in 0..case.rules() {
-        if rest.len() == 0 {
+        let Some((len, after)) = rest.split_first() else {
+            return false;
+        };
+        let Some((rule, later)) = after.split_at_checked(usize::from(*len)) else {
+            return false;
+        };
+        if !has_rule(case, r, rule) {
             return false;
         }
-        let len = rest[0] as usize;
-        if rest.len() <= len || !has_rule(case, r, &rest[1..len + 1]) {
-            return false;
-        }
-        rest = &rest[len + 1..];
+        rest = later;
     }
-    rest.len() == 0 && has_rule(case, case.rules(), &[])
+    rest.is_empty() && has_rule(case, case.rules(), &[])
 }
 
 // Whether the first literals have these amounts, and the next one none.
 fn has_amounts<C: Case>(case: &C, amounts: &[u32]) -> bool {
-    for (l, a) in amounts.iter().enumerate() {
-        if l > 254 {
-            return false;
-        }
-        if case.amount(l as u8) != *a {
-            return false;
-        }
-    }
-    amounts.len() < 256 && case.amount(amounts.len() as u8) == 0
+    (0..=255u8).zip(amounts).all(|(l, a)| case.amount(l) == *a)
+        && u8::try_from(amounts.len()).is_ok_and(|l| case.amount(l) == 0)
 }
 
 fn tells<C: Case>(case: &C, options: usize, rules: &[u8], amounts: &[u32]) -> bool {

@@ -1,10 +1,11 @@
 -- What the verdict on a pile says of what its choices read down to, from the promises and from how choices and charges go down and up.
-use Rattle.std.proofs.Common.{◌≡◌, Bool, true, List, [], sym, refl, ap, ◌∙◌, subst}
+use Rattle.std.proofs.Common.{◌≡◌, Bool, true, List, [], sym, ap, ◌∙◌, subst}
 use Rattle.cases.specs.Choices.{sets, keeps_all}
-use Rattle.cases.specs.Meanings.{Meaning, oversize, sound, options_of, rules_of}
+use Rattle.cases.specs.Meanings.{Meaning}
 use Rattle.cases.specs.Limits.{Limited}
 use Rattle.charges.specs.Kinds.{Kind, Laws}
 use Rattle.charges.specs.Charges.{contents, charge}
+use Rattle.charges.proofs.Contents.{contents_options, contents_rules}
 use Rattle.calculus.specs.Books.{Book}
 use Rattle.calculus.specs.Calls.{Call}
 use Rattle.calculus.specs.Piles.{after, book}
@@ -20,27 +21,19 @@ pub record Lowers (K : Kind) (t : Meaning) {X : Type 0} (down : List Bool → X)
   pub costs : (c : List Bool) → ChoiceKept t c → K.not_above (cost (down c)) (charge K (contents t) (sets c)) ≡ true
   pub lifts : (x : X) → Fits x → (c : List Bool) × ChoiceKept t c × (charge K (contents t) (sets c) ≡ cost x)
 
-options_told : (t : Meaning) → (contents t).options ≡ options_of t
-options_told oversize = refl
-options_told (sound s) = refl
-
-rules_told : (t : Meaning) → (contents t).rules ≡ rules_of t
-rules_told oversize = refl
-rules_told (sound s) = refl
-
 -- with no conditions, the choices admitted are those that keep the rules
 module _ (t : Meaning) (b : Book) (none : b.conditions ≡ []) (c : List Bool) where
   admit : ChoiceKept t c → Admitted (contents t) b c
   unfolding keeps_all
   admit k =
       let free : keeps_all (sets c) b.conditions ≡ true = ap (keeps_all (sets c)) none in
-      let rules : keeps_all (sets c) (contents t).rules ≡ true = ap (keeps_all (sets c)) (rules_told t) ∙ k.kept in
-      record { whole = k.whole ∙ sym (options_told t); kept = keeps-append (sets c) (contents t).rules b.conditions rules free }
+      let rules : keeps_all (sets c) (contents t).rules ≡ true = ap (keeps_all (sets c)) (contents_rules t) ∙ k.kept in
+      record { whole = k.whole ∙ sym (contents_options t); kept = keeps-append (sets c) (contents t).rules b.conditions rules free }
 
   admitted : Admitted (contents t) b c → ChoiceKept t c
   admitted a =
       let rules = keeps_left (sets c) (contents t).rules b.conditions a.kept in
-      record { whole = a.whole ∙ options_told t; kept = ap (keeps_all (sets c)) (sym (rules_told t)) ∙ rules }
+      record { whole = a.whole ∙ contents_options t; kept = ap (keeps_all (sets c)) (sym (contents_rules t)) ∙ rules }
 
 module _ (K : Kind) (laws : Laws K) (t : Meaning) (limited : Limited t) {X : Type 0} (down : List Bool → X) (Fits : X → Type 0) (cost : X → K.charges) where
   pub says_below : Lowers K t down Fits cost → (cs : List Call) → (book t cs).conditions ≡ [] → SaysBelow K t (after K t cs) down Fits cost

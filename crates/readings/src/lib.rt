@@ -8,22 +8,17 @@ ghost use Rattle.charges.specs.Generic.{kind_of};
 use charges::charge::Charge;
 
 // With no condition, the verdict on an open layer is one on the partial choices below, in every kind of charge.
-pub fn open_reads_down<K: Charge>() -> u8
+pub fn open_reads_down<K: Charge>()
     ensures { OpenReadsDown (kind_of K.Charge) }
-{
-    0
-}
+{}
 
 // With no condition, the verdict on a wish layer is one on the choices below and the wishes that they break.
-pub fn wish_reads_down<K: Charge>() -> u8
+pub fn wish_reads_down<K: Charge>()
     ensures { WishReadsDown (kind_of K.Charge) }
-{
-    0
-}
+{}
 
 // The worked examples follow from the definitions.
-pub fn examples_hold() -> u8
+#[tactic(auto, using(crate::proofs::Examples::all_rows))]
+pub fn examples_hold()
     ensures { AllRows }
-{
-    0
-}
+{}

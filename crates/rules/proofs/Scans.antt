@@ -1,20 +1,17 @@
 -- What a look at a rule, place by place or as a set, tells of the literals that it has in a set; and the first of all rules that
 -- passes a test, from the first of those in force and the first of the learned ones.
-use Rattle.std.proofs.Common.{◌≡◌, ℕ, ◌+◌, ◌-◌, ◌<◌, ◌≤◌, Bool, true, false, not, ◌&&◌, eqb, List, [], length, get_or, sym, refl, ap, ◌∙◌, subst, ⊎_elim, arith}
+use Rattle.std.proofs.Common.{◌≡◌, ℕ, ◌+◌, ◌-◌, ◌<◌, ◌≤◌, Bool, true, false, not, ◌&&◌, eqb, List, length, get_or, sym, refl, ap, ◌∙◌, subst, ⊎_elim, arith}
 use mathlib.Core.Option as core
 use Rattle.std.proofs.lemmas.Bool.{both_ways, cases_Bool, cases_lt, cases_eq, and_parts, and_from, and_left, and_right, eq-eqb, ne_eqb, eqb-true}
 use Rattle.cases.specs.Literals.{Literals, members}
-use Rattle.cases.specs.Meanings.{Meaning}
 use Rattle.calculus.specs.Scans.{any, first, count, place}
 use Rattle.calculus.specs.States.{clause}
 use Rattle.calculus.proofs.Scans.{any_yes, any_no, any_some, count_one, count_only}
 use Rattle.calculus.proofs.Loops.{place_here, place_nowhere}
 use Rattle.calculus.proofs.Rules.{members_at, members_place}
-use Rattle.tables.specs.declared.conditions.Conditions.{Conditions}
 use Rattle.tables.specs.declared.learned.Learned.{Learned}
-use Rattle.tables.specs.Rows.{nothing_noted}
 use Rattle.tables.specs.Learned.{rows_of}
-use Rattle.rules.specs.Force.{rules_in, clauses_in}
+use Rattle.rules.specs.Force.{InForce, all_rules, rule, all_clauses, row}
 use Rattle.rules.specs.Scans.{span, within, misses, forces}
 use Rattle.rules.proofs.Clauses.{clauses_are, clause_rule, clause_row}
 
@@ -153,40 +150,40 @@ module _ (S : Literals) (r : List ℕ) where
         q
 
 -- the first of all rules that passes the test p
-module _ (m : Meaning) (c : Conditions) (l : Learned) (p : Literals → Bool) where
+module _ (f : InForce) (l : Learned) (p : Literals → Bool) where
   abbrev rule_passes : ℕ → Bool
-  rule_passes q = p (members (get_or (rules_in m c) q []))
+  rule_passes q = p (members (rule f q))
 
   abbrev row_passes : ℕ → Bool
-  row_passes q = p (get_or (rows_of l) q nothing_noted).literals
+  row_passes q = p (row l q)
 
-  at_rule : (b : Bool) (q : ℕ) → q < length (rules_in m c) → rule_passes q ≡ b → p (get_or (clauses_in m c l) q (λ _. false)) ≡ b
+  at_rule : (b : Bool) (q : ℕ) → q < length (all_rules f) → rule_passes q ≡ b → p (get_or (all_clauses f l) q (λ _. false)) ≡ b
   unfolding clause
-  at_rule b q h e = ap p (clause_rule m c l q h) ∙ e
+  at_rule b q h e = ap p (clause_rule f l q h) ∙ e
 
-  at_row : (b : Bool) (q : ℕ) → row_passes q ≡ b → p (get_or (clauses_in m c l) (length (rules_in m c) + q) (λ _. false)) ≡ b
+  at_row : (b : Bool) (q : ℕ) → row_passes q ≡ b → p (get_or (all_clauses f l) (length (all_rules f) + q) (λ _. false)) ≡ b
   unfolding clause
   at_row b q e =
-      let r = length (rules_in m c) in
+      let r = length (all_rules f) in
       let k : r + q - r ≡ q = omega arith in
-      ap p (clause_row m c l (r + q) (omega arith)) ∙ ap row_passes k ∙ e
+      ap p (clause_row f l (r + q) (omega arith)) ∙ ap row_passes k ∙ e
 
-  before_row : (i : ℕ) → ((q : ℕ) → q < length (rules_in m c) → rule_passes q ≡ false) → ((q : ℕ) → q < i → row_passes q ≡ false)
-      → (q : ℕ) → q < length (rules_in m c) + i → p (get_or (clauses_in m c l) q (λ _. false)) ≡ false
+  before_row : (i : ℕ) → ((q : ℕ) → q < length (all_rules f) → rule_passes q ≡ false) → ((q : ℕ) → q < i → row_passes q ≡ false)
+      → (q : ℕ) → q < length (all_rules f) + i → p (get_or (all_clauses f l) q (λ _. false)) ≡ false
   before_row i h k q b =
-      let r = length (rules_in m c) in
+      let r = length (all_rules f) in
       ⊎_elim (λ (z : q < r). at_rule false q z (h q z))
       (λ (z : r ≤ q).
       let e : r + (q - r) ≡ q = omega arith in
-      ap (λ (x : ℕ). p (get_or (clauses_in m c l) x (λ _. false))) (sym e) ∙ at_row false (q - r) (k (q - r) (omega arith)))
+      ap (λ (x : ℕ). p (get_or (all_clauses f l) x (λ _. false))) (sym e) ∙ at_row false (q - r) (k (q - r) (omega arith)))
       (cases_lt q r)
 
-  pub in_rules : (i : ℕ) → i < length (rules_in m c) → ((q : ℕ) → q < i → rule_passes q ≡ false) → rule_passes i ≡ true → place p (clauses_in m c l) ≡ core.some i
-  in_rules i b h e = place_here p (clauses_in m c l) (λ _. false) i (omega (arith, clauses_are m c l)) (λ q k. at_rule false q (omega arith) (h q k)) (at_rule true i b e)
+  pub in_rules : (i : ℕ) → i < length (all_rules f) → ((q : ℕ) → q < i → rule_passes q ≡ false) → rule_passes i ≡ true → place p (all_clauses f l) ≡ core.some i
+  in_rules i b h e = place_here p (all_clauses f l) (λ _. false) i (omega (arith, clauses_are f l)) (λ q k. at_rule false q (omega arith) (h q k)) (at_rule true i b e)
 
-  pub in_rows : (i : ℕ) → i < length (rows_of l) → ((q : ℕ) → q < length (rules_in m c) → rule_passes q ≡ false) → ((q : ℕ) → q < i → row_passes q ≡ false) → row_passes i ≡ true
-      → place p (clauses_in m c l) ≡ core.some (length (rules_in m c) + i)
-  in_rows i b h k e = place_here p (clauses_in m c l) (λ _. false) (length (rules_in m c) + i) (omega (arith, clauses_are m c l)) (before_row i h k) (at_row true i e)
+  pub in_rows : (i : ℕ) → i < length (rows_of l) → ((q : ℕ) → q < length (all_rules f) → rule_passes q ≡ false) → ((q : ℕ) → q < i → row_passes q ≡ false) → row_passes i ≡ true
+      → place p (all_clauses f l) ≡ core.some (length (all_rules f) + i)
+  in_rows i b h k e = place_here p (all_clauses f l) (λ _. false) (length (all_rules f) + i) (omega (arith, clauses_are f l)) (before_row i h k) (at_row true i e)
 
-  pub nowhere : ((q : ℕ) → q < length (rules_in m c) → rule_passes q ≡ false) → ((q : ℕ) → q < length (rows_of l) → row_passes q ≡ false) → place p (clauses_in m c l) ≡ core.none
-  nowhere h k = place_nowhere p (clauses_in m c l) (λ _. false) (λ q b. before_row (length (rows_of l)) h k q (omega (arith, clauses_are m c l)))
+  pub nowhere : ((q : ℕ) → q < length (all_rules f) → rule_passes q ≡ false) → ((q : ℕ) → q < length (rows_of l) → row_passes q ≡ false) → place p (all_clauses f l) ≡ core.none
+  nowhere h k = place_nowhere p (all_clauses f l) (λ _. false) (λ q b. before_row (length (rows_of l)) h k q (omega (arith, clauses_are f l)))

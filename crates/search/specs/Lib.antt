@@ -1,4 +1,5 @@
 pub mod Stands
 pub mod Replies
 pub mod Histories
+pub mod Verdicts
 pub mod Inner

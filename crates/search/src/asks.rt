@@ -27,6 +27,7 @@ impl<P: Case, K: Charge> Search<P, K> {
         if !is_closed(&self.pile, &self.tables) {
             return Verdict::Open;
         }
+        // two verdicts of the two variants: map_or is no plainer
         match self.best {
             Some(_) => Verdict::Cheapest,
             None => Verdict::Impossible,
@@ -35,16 +36,11 @@ impl<P: Case, K: Charge> Search<P, K> {
 
     // Whether there is a best and it sets none of the literals.
     pub(crate) fn breaks(&self, literals: &[u8]) -> bool
-        ensures { result ≡ breaks_rule (best_seen (kind_of K.Charge) (contents (P.Case.meaning self.now.pile)).options self.now.best (member self.now.tables.choice)) literals.now }
+        ensures { result ≡ breaks_rule (best_seen (kind_of K.Charge) (contents (P.Case.meaning self.now.pile)).options self.now.best (member self.now.tables.work.choice)) literals.now }
     {
-        match self.best {
-            None => false,
-            Some(_) => {
-                let n = self.pile.options();
-                let choice = chosen(&self.tables.choice, n);
-                !sets_one(&choice[0..n], literals)
-            }
-        }
+        let n = self.pile.options();
+        let choice = chosen(&self.tables.work.choice);
+        self.best.is_some() && !sets_one(&choice[..n], literals)
     }
 
     // What is wrong with adding a condition, the first thing in the order of checks.

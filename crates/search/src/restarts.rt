@@ -1,18 +1,18 @@
-// What adding and withdrawing do to the tables.
+// What adding and withdrawing do to the work.
 ghost use Rattle.std.specs.Prelude.{◌≡◌, ℕ};
 ghost use Rattle.steps.specs.Shapes.{shape, Right};
 ghost use Rattle.search.specs.Inner.Changes.{restarting};
 
-use steps::held::Tables;
+use steps::held::Work;
 
 // The trail is emptied, the conflict set becomes none, and the counts are zeroed. No row is a reason then.
-pub fn restart(tables: &mut Tables)
-    ensures leaves { shape tables.new ≡ restarting (shape tables.old) }
-    ensures notes { (base : ℕ) → Right base tables.new }
+pub fn restart(work: &mut Work)
+    ensures leaves { shape work.new ≡ restarting (shape work.old) }
+    ensures notes { (base : ℕ) → Right base work.new }
 {
-    tables.trail.clear();
-    tables.learned.note(&[false; 64]);
-    tables.conflict = None;
-    tables.conflicts = 0;
-    tables.steps = 0;
+    work.trail.clear();
+    work.learned.note(&[false; 64]);
+    work.conflict = None;
+    work.conflicts = 0;
+    work.steps = 0;
 }

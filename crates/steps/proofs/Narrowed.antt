@@ -4,6 +4,11 @@ use Rattle.std.proofs.Common.{◌≡◌, ℕ, ◌+◌, ◌*◌, ◌/◌, ◌<◌
 use mathlib.Core.Path.{fun_ext}
 use Rattle.std.proofs.lemmas.Bool.{both_ways, cases_Bool, cases_lt, cases_eq, and_parts, and_from, and_left, and_right, eq-eqb, ne_eqb, eqb-true, lt-ltb, le-ltb, le-leb, lt-leb}
 use Rattle.cases.specs.Literals.{Literals, complement}
+use Rattle.cases.specs.Meanings.{Meaning, Sound}
+use Rattle.cases.specs.Limits.{Limited}
+use Rattle.cases.proofs.Tests.{complement_on, complement_off}
+use Rattle.charges.specs.Charges.{contents}
+use Rattle.charges.proofs.Contents.{contents_options}
 use Rattle.calculus.specs.Scans.{any, first, count, greatest}
 use Rattle.calculus.specs.Trails.{Trail, on, unset, level, level_of}
 use Rattle.calculus.specs.Calculus.{Free, LowestUnset}
@@ -11,8 +16,11 @@ use Rattle.calculus.specs.Steps.{alive, is_false, is_unit, at_level, can_backtra
 use Rattle.calculus.proofs.Scans.{any_yes, any_no, any_some, count_one, count_only, greatest_above, greatest_reached}
 use Rattle.calculus.proofs.Loops.{first_here}
 use Rattle.calculus.proofs.Tests.{unit_forces}
-use Rattle.calculus.proofs.Literals.{complement_on, complement_off}
 use Rattle.rules.specs.Scans.{span, within, misses, forces}
+
+-- a case has so few options that a set can tell its literals apart
+pub few_literals : (p : Meaning) (m : Sound) → contents p ≡ m → Limited p → 2 * m.options ≤ 128
+few_literals p m e h = rw (← e) (omega (arith, contents_options p, h.few_options))
 
 -- p is q below n, and false past it
 module _ (n : ℕ) (p q : ℕ → Bool) (small : n ≤ span) (same : (x : ℕ) → x < n → p x ≡ q x) (past : (x : ℕ) → n ≤ x → p x ≡ false) where

@@ -1,4 +1,4 @@
--- What the tables of a search stand for, and what each rule of the calculus makes of that.
+-- What the work of a search stands for, and what each rule of the calculus makes of that.
 use Rattle.std.specs.Prelude.{◌≡◌, ℕ, ◌+◌, ◌-◌, ◌*◌, ◌<◌, Bool, true, false, cond, not, ◌&&◌, List, [], ◌∷◌, ◌++◌, length, Some, None, Option, nat_le, nat_lt, slice_index_or}
 use Rattle.std.proofs.Math.Option as core
 use Rattle.cases.specs.Literals.{Literals, complement}
@@ -14,12 +14,10 @@ use Rattle.trails.specs.Entries.{joined, tail_of}
 use Rattle.trails.specs.Trails.{listed}
 use Rattle.tables.specs.Rows.{Noted, nothing_noted, marked}
 use Rattle.tables.specs.Learned.{rows_of, rules_learned}
-use Rattle.tables.specs.Conditions.{conditions_of}
-use Rattle.steps.specs.declared.held.Tables.{Tables}
+use Rattle.steps.specs.declared.held.Work.{Work}
 
--- The tables without what they keep to themselves.
+-- The work without what it keeps to itself.
 pub record Shape : Type 0 where
-  pub conditions : List (List ℕ)
   pub trail : calculus.Trail
   pub conflict : core.Option Literals
   pub choice : Literals
@@ -31,10 +29,9 @@ abbrev pub conflict_of : Option LiteralSet → core.Option Literals
 conflict_of None = core.none
 conflict_of (Some s) = core.some (member s)
 
-abbrev pub shape : Tables → Shape
+abbrev pub shape : Work → Shape
 shape t =
     record {
-      conditions = conditions_of t.conditions;
       trail = listed t.trail;
       conflict = conflict_of t.conflict;
       choice = member t.choice;
@@ -44,38 +41,37 @@ shape t =
     }
 
 -- Each row notes whether it is a reason; the rows begin at the place `base`.
-abbrev pub Right : ℕ → Tables → Type 0
+abbrev pub Right : ℕ → Work → Type 0
 Right base t =
     (j : ℕ) → j < length (rows_of t.learned) → (slice_index_or (rows_of t.learned) j nothing_noted).reason ≡ is_reason (listed t.trail) (base + j)
 
 abbrev pub blank : Shape
-blank = record { conditions = []; trail = []; conflict = core.none; choice = λ _. false; learned = []; conflicts = 0; steps = 0 }
+blank = record { trail = []; conflict = core.none; choice = λ _. false; learned = []; conflicts = 0; steps = 0 }
 
 -- ConflSat and ConflOpt.
 abbrev pub conflicting : Literals → Shape → Shape
 conflicting D s =
-    record { conditions = s.conditions; trail = s.trail; conflict = core.some D; choice = s.choice; learned = s.learned; conflicts = up s.conflicts; steps = up s.steps }
+    record { trail = s.trail; conflict = core.some D; choice = s.choice; learned = s.learned; conflicts = up s.conflicts; steps = up s.steps }
 
 -- Improve.
 abbrev pub improving : Literals → Shape → Shape
-improving C s = record { conditions = s.conditions; trail = s.trail; conflict = core.none; choice = C; learned = s.learned; conflicts = s.conflicts; steps = up s.steps }
+improving C s = record { trail = s.trail; conflict = core.none; choice = C; learned = s.learned; conflicts = s.conflicts; steps = up s.steps }
 
 -- Propagate and Decide.
 abbrev pub pushing : ℕ → Reason → Shape → Shape
 pushing l r s =
-    record { conditions = s.conditions; trail = joined l r s.trail; conflict = core.none; choice = s.choice; learned = s.learned; conflicts = s.conflicts; steps = up s.steps }
+    record { trail = joined l r s.trail; conflict = core.none; choice = s.choice; learned = s.learned; conflicts = s.conflicts; steps = up s.steps }
 
 -- Skip and Resolve.
 abbrev pub popping : Literals → Shape → Shape
 popping D s =
-    record { conditions = s.conditions; trail = tail_of s.trail; conflict = core.some D; choice = s.choice; learned = s.learned; conflicts = s.conflicts; steps = up s.steps }
+    record { trail = tail_of s.trail; conflict = core.some D; choice = s.choice; learned = s.learned; conflicts = s.conflicts; steps = up s.steps }
 
 -- Backtrack, where p is the place of the row that leaves.
 abbrev pub backed : ℕ → Literals → ℕ → ℕ → ℕ → Shape → Shape
 backed base D L i p s =
     let kept : List Literals = remove p s.learned in
     record {
-      conditions = s.conditions;
       trail = record { literal = L; level = i; reason = calculus.forced (base + length kept) } ∷ renamed (base + p) (calculus.cut i s.trail);
       conflict = core.none;
       choice = s.choice;

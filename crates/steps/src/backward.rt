@@ -10,20 +10,17 @@ ghost use Rattle.calculus.specs.States.{clause as clause_at};
 ghost use Rattle.calculus.specs.Steps.{others, can_backtrack, back, backward as backward_by};
 ghost use Rattle.literals.specs.Members.{member};
 ghost use Rattle.trails.specs.Trails.{listed};
-ghost use Rattle.rules.specs.Force.{rules_in, clauses_in};
+ghost use Rattle.rules.specs.Force.{all_rules, all_clauses};
 ghost use Rattle.steps.specs.Shapes.{Right, Asserted};
-ghost use Rattle.steps.specs.States.{seen};
+ghost use Rattle.steps.specs.States.{working};
 
-use crate::changes::{backtrack, pop};
-use crate::held::Tables;
+use crate::held::Work;
 use crate::literals_of::all_literals;
 use cases::case::Case;
 use cases::literals::opposite;
 use charges::charge::Charge;
 use literals::LiteralSet;
-use rules::force::{clause, in_force};
-use tables::conditions::Conditions;
-use tables::learned::Learned;
+use rules::force::{Force, Rules};
 use trails::entry::Reason;
 use trails::trail::Trail;
 
@@ -43,47 +40,43 @@ fn asserted<P: Case>(pile: &P, trail: &Trail, set: &LiteralSet) -> Option<u8>
 
 // The set with the complement of the literal replaced by the other literals of its reason.
 fn resolvent<P: Case>(
-    pile: &P,
-    conditions: &Conditions,
-    learned: &Learned,
+    rules: &Rules<'_, P>,
     set: &LiteralSet,
     literal: u8,
     place: usize,
 ) -> LiteralSet
-    ensures { (x : ℕ) → member result x ≡ resolved (member set.now) literal (clause_at (clauses_in (P.Case.meaning pile.now) conditions.now learned.now) place) x }
+    ensures { (x : ℕ) → member result x ≡ resolved (member set.now) literal (clause_at (all_clauses rules.now.force.now rules.now.learned.now) place) x }
 {
     let mut rest = *set;
     rest.remove(opposite(literal));
-    let mut reason = clause(pile, conditions, learned, place);
+    let mut reason = rules.clause(place);
     reason.remove(literal);
     rest.union(&reason);
     rest
 }
 
 // Skip: the trail's last literal goes if its complement is not in the set. Else Resolve.
-fn unwind<P: Case, K: Charge>(pile: &P, tables: &mut Tables, set: LiteralSet)
-    ensures leaves { (b : Option K) → seen (kind_of K.Charge) (P.Case.meaning pile.now) b tables.new ≡ back (contents (P.Case.meaning pile.now)) (seen (kind_of K.Charge) (P.Case.meaning pile.now) b tables.old) (member set) (listed tables.old.trail) }
-    ensures notes { Right (length (rules_in (P.Case.meaning pile.now) tables.old.conditions)) tables.old → Right (length (rules_in (P.Case.meaning pile.now) tables.old.conditions)) tables.new }
-    ensures holds { tables.new.conditions ≡ tables.old.conditions }
+// Here and below `notes` stays a clause and no invariant of Work: how many rules are in force, the work does not know.
+// The rules in force and the work stay two parameters, here and in forward: one is read, one changes, and one struct is no plainer.
+fn unwind<P: Case, K: Charge>(force: &Force<'_, P>, work: &mut Work, set: LiteralSet)
+    ensures leaves { (b : Option K) → working (kind_of K.Charge) force.now b work.new ≡ back force.now.pile (working (kind_of K.Charge) force.now b work.old) (member set) (listed work.old.trail) }
+    ensures notes { Right (length (all_rules force.now)) work.old → Right (length (all_rules force.now)) work.new }
 {
-    let Some(top) = tables.trail.top() else {
+    let Some(top) = work.trail.top() else {
         return;
     };
-    let base = in_force(pile, &tables.conditions);
+    let base = force.in_force();
     if !set.has(opposite(top.literal)) {
-        pop(tables, base, top, set);
+        work.pop(base, top, set);
         return;
     }
     if let Reason::Forced(place) = top.reason {
-        let rest = resolvent(
-            pile,
-            &tables.conditions,
-            &tables.learned,
-            &set,
-            top.literal,
-            place as usize,
-        );
-        pop(tables, base, top, rest);
+        let rules = Rules {
+            force: &*force,
+            learned: &work.learned,
+        };
+        let rest = resolvent(&rules, &set, top.literal, place as usize);
+        work.pop(base, top, rest);
     }
 }
 
@@ -97,17 +90,15 @@ fn level_below<P: Case>(pile: &P, trail: &Trail, set: &LiteralSet, literal: u8) 
 }
 
 // Backtrack, if the set has just one literal of the trail's level, and that is not 0. Else Skip or Resolve.
-pub fn backward<P: Case, K: Charge>(pile: &P, tables: &mut Tables, set: LiteralSet)
-    ensures leaves { (b : Option K) → seen (kind_of K.Charge) (P.Case.meaning pile.now) b tables.new ≡ backward_by (contents (P.Case.meaning pile.now)) (seen (kind_of K.Charge) (P.Case.meaning pile.now) b tables.old) (member set) (can_backtrack (contents (P.Case.meaning pile.now)).options (listed tables.old.trail) (member set)) }
-    ensures notes { Right (length (rules_in (P.Case.meaning pile.now) tables.old.conditions)) tables.old → Right (length (rules_in (P.Case.meaning pile.now) tables.old.conditions)) tables.new }
-    ensures holds { tables.new.conditions ≡ tables.old.conditions }
+pub fn backward<P: Case, K: Charge>(force: &Force<'_, P>, work: &mut Work, set: LiteralSet)
+    ensures leaves { (b : Option K) → working (kind_of K.Charge) force.now b work.new ≡ backward_by force.now.pile (working (kind_of K.Charge) force.now b work.old) (member set) (can_backtrack force.now.pile.options (listed work.old.trail) (member set)) }
+    ensures notes { Right (length (all_rules force.now)) work.old → Right (length (all_rules force.now)) work.new }
 {
-    match asserted(pile, &tables.trail, &set) {
+    match asserted(force.pile, &work.trail, &set) {
         Some(literal) => {
-            let i = level_below(pile, &tables.trail, &set, literal);
-            let base = in_force(pile, &tables.conditions);
-            backtrack(tables, base, set, literal, i);
+            let i = level_below(force.pile, &work.trail, &set, literal);
+            work.backtrack(force.in_force(), set, literal, i);
         }
-        None => unwind::<P, K>(pile, tables, set),
+        None => unwind::<P, K>(force, work, set),
     }
 }

@@ -10,22 +10,21 @@ ghost use Rattle.calculus.specs.Steps.{best_not_above, is_unit, extend_in, by_co
 ghost use Rattle.calculus.specs.Calculus.{LowestUnset};
 ghost use Rattle.literals.specs.Members.{member};
 ghost use Rattle.trails.specs.Trails.{listed};
-ghost use Rattle.rules.specs.Force.{rules_in};
+ghost use Rattle.rules.specs.Force.{all_rules};
 ghost use Rattle.steps.specs.Shapes.{Right, Live};
-ghost use Rattle.steps.specs.States.{best_seen, seen};
+ghost use Rattle.steps.specs.States.{best_seen, working};
 
-use crate::changes::{conflict_with, improve, push};
-use crate::held::Tables;
+use crate::held::Work;
 use crate::literals_of::{decision, live_literals, trail_charge};
 use cases::case::Case;
 use charges::charge::Charge;
 use literals::LiteralSet;
-use rules::force::{clause, in_force};
-use rules::scan::{first_forcing, first_missing};
+use rules::force::{Force, Rules};
 use trails::entry::Reason;
 use trails::trail::Trail;
 
 // Whether there is a best and it is not above the charge of the trail.
+#[tactic(auto, unfolding(calculus::specs::Steps::best_not_above))]
 fn best_is_not_above<P: Case, K: Charge>(
     pile: &P,
     best: &Option<K>,
@@ -34,6 +33,7 @@ fn best_is_not_above<P: Case, K: Charge>(
 ) -> bool
     ensures { result ≡ best_not_above (kind_of K.Charge) (contents (P.Case.meaning pile.now)) (best_seen (kind_of K.Charge) (contents (P.Case.meaning pile.now)).options best.now (member choice.now)) (on (listed trail.now)) }
 {
+    // is_some_and, here and in is_closed, takes a search 7 in 100 more instructions: past the bar of speed
     match best {
         None => false,
         Some(charge) => charge.not_above(trail_charge(pile, trail)),
@@ -41,42 +41,50 @@ fn best_is_not_above<P: Case, K: Charge>(
 }
 
 // Propagate: the first rule with one unset literal, its others false, adds it. Else Decide: the lowest unset option, v.
-fn extend<P: Case, K: Charge>(pile: &P, tables: &mut Tables, live: &LiteralSet, v: u8)
-    requires { (Live (contents (P.Case.meaning pile.now)).options (listed tables.old.trail) (member live.now)) × (LowestUnset (contents (P.Case.meaning pile.now)).options (listed tables.old.trail) v) }
-    ensures leaves { (b : Option K) → seen (kind_of K.Charge) (P.Case.meaning pile.now) b tables.new ≡ extend_in (kind_of K.Charge) (contents (P.Case.meaning pile.now)) (seen (kind_of K.Charge) (P.Case.meaning pile.now) b tables.old) (place (is_unit (contents (P.Case.meaning pile.now)).options (listed tables.old.trail)) (clauses (contents (P.Case.meaning pile.now)) (seen (kind_of K.Charge) (P.Case.meaning pile.now) b tables.old))) }
-    ensures notes { Right (length (rules_in (P.Case.meaning pile.now) tables.old.conditions)) tables.old → Right (length (rules_in (P.Case.meaning pile.now) tables.old.conditions)) tables.new }
-    ensures holds { tables.new.conditions ≡ tables.old.conditions }
+// Here and below `notes` stays a clause, as in backward: how many rules are in force, the work does not know.
+fn extend<P: Case, K: Charge>(force: &Force<'_, P>, work: &mut Work, live: &LiteralSet, v: u8)
+    requires live { Live force.now.pile.options (listed work.old.trail) (member live.now) }
+    requires lowest { LowestUnset force.now.pile.options (listed work.old.trail) v }
+    ensures leaves { (b : Option K) → working (kind_of K.Charge) force.now b work.new ≡ extend_in (kind_of K.Charge) force.now.pile (working (kind_of K.Charge) force.now b work.old) (place (is_unit force.now.pile.options (listed work.old.trail)) (clauses force.now.pile (working (kind_of K.Charge) force.now b work.old))) }
+    ensures notes { Right (length (all_rules force.now)) work.old → Right (length (all_rules force.now)) work.new }
 {
-    let base = in_force(pile, &tables.conditions);
-    let set = tables.trail.literals();
-    match first_forcing(pile, &tables.conditions, &tables.learned, live, &set) {
-        Some((i, l)) => push(tables, base, l, Reason::Forced(i as u16)),
-        None => push(tables, base, decision::<P, K>(pile, v), Reason::Decided),
+    let base = force.in_force();
+    let set = work.trail.literals();
+    let rules = Rules {
+        force: &*force,
+        learned: &work.learned,
+    };
+    match rules.first_forcing(live, &set) {
+        Some((i, l)) => work.push(base, l, Reason::Forced(i as u16)),
+        None => work.push(base, decision::<P, K>(force.pile, v), Reason::Decided),
     }
 }
 
-pub fn forward<P: Case, K: Charge>(pile: &P, best: &mut Option<K>, tables: &mut Tables)
-    ensures leaves { tables.old.conflict ≡ None → seen (kind_of K.Charge) (P.Case.meaning pile.now) best.new tables.new ≡ by_conflict (kind_of K.Charge) (contents (P.Case.meaning pile.now)) (seen (kind_of K.Charge) (P.Case.meaning pile.now) best.old tables.old) none }
-    ensures notes { Right (length (rules_in (P.Case.meaning pile.now) tables.old.conditions)) tables.old → Right (length (rules_in (P.Case.meaning pile.now) tables.old.conditions)) tables.new }
-    ensures holds { tables.new.conditions ≡ tables.old.conditions }
+pub fn forward<P: Case, K: Charge>(force: &Force<'_, P>, best: &mut Option<K>, work: &mut Work)
+    ensures leaves { work.old.conflict ≡ None → working (kind_of K.Charge) force.now best.new work.new ≡ by_conflict (kind_of K.Charge) force.now.pile (working (kind_of K.Charge) force.now best.old work.old) none }
+    ensures notes { Right (length (all_rules force.now)) work.old → Right (length (all_rules force.now)) work.new }
 {
-    let live = live_literals(pile, &tables.trail);
-    if let Some(i) = first_missing(pile, &tables.conditions, &tables.learned, &live) {
-        let set = clause(pile, &tables.conditions, &tables.learned, i);
-        conflict_with(tables, set);
+    let live = live_literals(force.pile, &work.trail);
+    let rules = Rules {
+        force: &*force,
+        learned: &work.learned,
+    };
+    if let Some(i) = rules.first_missing(&live) {
+        let set = rules.clause(i);
+        work.conflict_with(set);
         return;
     }
-    if best_is_not_above(pile, best, &tables.choice, &tables.trail) {
-        let set = tables.trail.complements();
-        conflict_with(tables, set);
+    if best_is_not_above(force.pile, best, &work.choice, &work.trail) {
+        let set = work.trail.complements();
+        work.conflict_with(set);
         return;
     }
-    let set = tables.trail.literals();
+    let set = work.trail.literals();
     match live.without(&set).first() {
-        Some(lowest) => extend::<P, K>(pile, tables, &live, lowest / 2),
+        Some(lowest) => extend::<P, K>(force, work, &live, lowest / 2),
         None => {
-            *best = Some(trail_charge(pile, &tables.trail));
-            improve(tables, set);
+            *best = Some(trail_charge(force.pile, &work.trail));
+            work.improve(set);
         }
     }
 }

@@ -1,4 +1,5 @@
-// Sets of literals and charges, from a pile and a trail.
+// Sets of literals and charges, from a pile and a trail. These stay two parameters, here and in forward and backward: the one is the
+// search's and the other the work's, and a struct of both is no plainer.
 ghost use Rattle.std.specs.Prelude.{◌≡◌, ℕ, ◌*◌, ◌<◌, ◌≤◌, nat_lt};
 ghost use Rattle.charges.specs.Generic.{kind_of};
 ghost use Rattle.charges.specs.Charges.{contents, price_of, charge};
@@ -32,6 +33,7 @@ pub fn live_literals<P: Case>(pile: &P, trail: &Trail) -> LiteralSet
 pub fn trail_charge<P: Case, K: Charge>(pile: &P, trail: &Trail) -> K
     ensures { result ≡ charge (kind_of K.Charge) (contents (P.Case.meaning pile.now)) (on (listed trail.now)) }
 {
+    // a buffer with its length: `list` is public and stays, and an ArrayVec would ask for a second function that says the same
     let mut list = [0u8; 56];
     let len = trail.list(&mut list);
     charge_of(pile, &list[0..len])

@@ -1,9 +1,13 @@
 -- How long the tables are, and what a mark, a note, a removal and one row more leave of the learned rows; all from the definitions.
-use Rattle.std.proofs.Common.{◌≡◌, ℕ, zero, suc, ◌<◌, ◌≤◌, Bool, false, List, [], ◌∷◌, ◌++◌, length, get_or, take, drop, refl, ap, ◌∙◌, not-suc-le-zero, arith}
+use Rattle.std.proofs.Common.{ap₂, ◌≡◌, ℕ, zero, suc, ◌-◌, ◌<◌, ◌≤◌, Bool, false, List, [], ◌∷◌, ◌++◌, map, length, get_or, take, drop, refl, ap, ◌∙◌, not-suc-le-zero, arith}
+use Rattle.std.specs.List.{AllZip}
 use Rattle.std.proofs.lemmas.List.{length-map, length-take-le, map_push}
-use Rattle.calculus.specs.Scans.{remove}
+use Rattle.calculus.specs.Scans.{remove, all_but_last}
 use Rattle.cases.specs.Literals.{Literals}
+use Rattle.layers.specs.Facts.Rows.{below_past}
+use Rattle.arrayvec.specs.ArrayVec.{array_vec_len}
 use Rattle.tables.specs.declared.learned.Learned.{Learned}
+use Rattle.tables.specs.declared.conditions.Condition.{Condition}
 use Rattle.tables.specs.declared.conditions.Conditions.{Conditions}
 use Rattle.tables.specs.Rows.{Noted, row_of, nothing_noted, marked, noting}
 use Rattle.tables.specs.Learned.{rows_of, rules_learned}
@@ -16,12 +20,27 @@ len_rows l = length-map (take l.len l.rows) row_of ∙ length-take-le l.len l.ro
 pub length-rows : (l : Learned) → length (rows_of l) ≤ 64
 length-rows l = omega (arith, len_rows l, l.few)
 
-pub len_conditions : (c : Conditions) → length (conditions_of c) ≡ c.len
+pub len_conditions : (c : Conditions) → length (conditions_of c) ≡ array_vec_len c.held
 unfolding conditions_of
-len_conditions c = length-map (take c.len c.held) literals_of ∙ length-take-le c.len c.held (omega (arith, c.few, c.full))
+len_conditions c = length-map c.held.items literals_of
 
 pub length-conditions : (c : Conditions) → length (conditions_of c) ≤ 32
 length-conditions c = omega (arith, len_conditions c, c.few)
+
+-- The newest condition gone.
+pub last_gone : (cs : List Condition) → map literals_of (take (length cs - 1) cs) ≡ all_but_last (map literals_of cs)
+unfolding all_but_last
+last_gone [] = refl
+last_gone (c ∷ []) = refl
+last_gone (c ∷ d ∷ cs) =
+    let e : length (c ∷ d ∷ cs) - 1 ≡ suc (length (d ∷ cs) - 1) = omega arith in
+    ap (λ n. map literals_of (take n (c ∷ d ∷ cs))) e ∙ ap {B = List (List ℕ)} (λ ls. literals_of c ∷ ls) (last_gone (d ∷ cs))
+
+-- What a condition has is a literal.
+pub literal_small : (cs : List Condition) (i j : ℕ) → j < length (get_or (map literals_of cs) i []) → get_or (get_or (map literals_of cs) i []) j 255 < 128
+literal_small [] i j h = absurd (omega arith)
+literal_small (c ∷ cs) zero j h = below_past (literals_of c) 128 c.literals.small j 255 h
+literal_small (c ∷ cs) (suc i) j h = literal_small cs i j h
 
 -- a mark
 pub length_marked : (j : ℕ) (b : Bool) (rs : List Noted) → length (marked j b rs) ≡ length rs
@@ -88,3 +107,10 @@ learned_remove (suc p) (r ∷ rs) = ap {B = List Literals} (λ ls. r.literals �
 
 pub learned-append : (rs : List Noted) (r : Noted) → rules_learned (rs ++ (r ∷ [])) ≡ rules_learned rs ++ (r.literals ∷ [])
 learned-append rs r = map_push (λ (x : Noted). x.literals) rs r
+
+-- Copies of conditions are those conditions.
+pub copied : (xs ys : List Condition) → AllZip (λ v w. literals_of w ≡ literals_of v) xs ys → map literals_of ys ≡ map literals_of xs
+copied [] [] h = refl
+copied [] (y ∷ ys) h = absurd h
+copied (x ∷ xs) [] h = absurd h
+copied (x ∷ xs) (y ∷ ys) h = ap₂ (λ a b. a ∷ b) h.0 (copied xs ys h.1)

@@ -1,5 +1,5 @@
 -- The conditions of a search, oldest first, each as a list of literals.
-use Rattle.std.specs.Prelude.{ℕ, Bool, ◌&&◌, List, map, length, take, nat_le, nat_lt}
+use Rattle.std.specs.Prelude.{ℕ, Bool, ◌&&◌, List, map, length, nat_le, nat_lt}
 use Rattle.layers.specs.Rows.{past_all}
 use Rattle.layers.specs.RowViews.{items_of}
 use Rattle.calculus.specs.Checks.{most_conditions, longest_condition}
@@ -10,7 +10,7 @@ abbrev pub literals_of : Condition → List ℕ
 literals_of c = items_of c.literals
 
 unfoldable pub conditions_of : Conditions → List (List ℕ)
-conditions_of c = map literals_of (take c.len c.held)
+conditions_of c = map literals_of c.held.items
 
 -- There is room for one more, and the list is short enough and has only numbers that can be literals.
 abbrev pub can_hold : List (List ℕ) → List ℕ → Bool

@@ -10,7 +10,7 @@ pub struct Row {
     pub reason: bool,
 }
 
-// The rows, oldest first.
+// The rows, oldest first. They stay an array with its length beside it, inside a plain struct: a rule of the project.
 #[derive(Clone, Copy)]
 pub struct Learned {
     rows: [Row; 64],

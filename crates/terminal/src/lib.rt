@@ -15,6 +15,8 @@ pub fn fill<R: Read>(input: &mut R, buffer: &mut [u8]) -> io::Result<usize>
 {
     let size = buffer.len();
     let mut len = 0;
+    // A loop of reads: read_to_end asks for a heap, read_exact loses how many bytes came, and io::copy goes on after an interrupted read, where
+    // the programs end.
     for _ in 0..size {
         let got = input.read(&mut buffer[len..])?;
         if got == 0 {

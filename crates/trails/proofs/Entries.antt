@@ -1,115 +1,62 @@
--- What an array of entries stands for, from the definition: one entry more, one less, and a change at a place.
-use Rattle.std.proofs.Common.{◌≡◌, ℕ, zero, suc, ◌+◌, ◌-◌, ◌<◌, ◌≤◌, true, false, ◌||◌, List, [], ◌∷◌, ◌++◌, length, get_or, drop, set, sym, refl, ap, ◌∙◌, subst, ap₂, ⊎_elim, add-one, arith, length-append}
-use Rattle.std.proofs.lemmas.List.{get_or-set_same, get_or-set_other, drop_more, set-append_right, append_assoc}
-use Rattle.std.proofs.lemmas.Bool.{cases_eq, cases_lt, or_left, or_right, lt-leb, le-leb}
+-- What a list of entries stands for, from the definition: one entry more, the newest, and entries under other reasons.
+use Rattle.std.proofs.Common.{◌≡◌, ℕ, ◌+◌, ◌-◌, ◌<◌, Bool, true, false, leb, ltb, ◌||◌, List, [], ◌∷◌, ◌++◌, map, reverse, length, get_or, take, drop, set, Some, None, Option, MatchOption, inl, inr, sym, refl, ap, ◌∙◌, subst, ap₂, arith, length-append}
+use Rattle.std.specs.List.{list_any, slice_get}
+use Rattle.std.proofs.lemmas.List.{reverse-append, length-reverse, length-map, length-take-le, take_more, take_more_set, take_all, drop_more, set-append_right, append_assoc, nil_from_length}
+use Rattle.std.proofs.lemmas.List.Sorted.{list_any-IsPermutation, IsPermutation-reverse}
+use Rattle.std.proofs.lemmas.Option.{slice_get_cases, slice_get_within, get_or_from_slice_get}
+use Rattle.std.proofs.lemmas.Bool.{both_ways, cond-true, cond-false, lt-leb, le-leb, ltb-true, ltb-false}
 use Rattle.calculus.specs.Learned.{is_place, is_reason, moved, renamed}
 use Rattle.calculus.specs.Trails as calculus
 use Rattle.trails.specs.declared.entry.Entry.{Entry}
-use Rattle.trails.specs.Entries.{trail_of, entry_of, entry_at, no_entry, reason_of, tail_of, literals_in}
+use Rattle.trails.specs.Entries.{trail_of, entry_of, reason_of, literals_in, tail_of, Top}
 
-pub trail_none : (es : List Entry) → trail_of es 0 ≡ []
+pub trail_none : trail_of [] ≡ []
 unfolding trail_of
-trail_none es = refl
+trail_none = refl
 
-pub trail_empty : (es : List Entry) (n : ℕ) → n ≡ 0 → trail_of es n ≡ []
-trail_empty es n e = ap (trail_of es) e ∙ trail_none es
-
-pub trail_suc : (es : List Entry) (k : ℕ) → trail_of es (suc k) ≡ entry_of (entry_at es k) ∷ trail_of es k
+pub trail_push : (es : List Entry) (e : Entry) → trail_of (es ++ e ∷ []) ≡ entry_of e ∷ trail_of es
 unfolding trail_of
-trail_suc es k = refl
+trail_push es e = ap (map entry_of) (reverse-append es (e ∷ []))
 
-pub trail_more : (es : List Entry) (k : ℕ) → trail_of es (k + 1) ≡ entry_of (entry_at es k) ∷ trail_of es k
-trail_more es k = ap (trail_of es) (add-one k) ∙ trail_suc es k
+pub trail_more : (es : List Entry) (i : ℕ) (d : Entry) → i < length es → trail_of (take (i + 1) es) ≡ entry_of (get_or es i d) ∷ trail_of (take i es)
+trail_more es i d h = ap trail_of (take_more es i d h) ∙ trail_push (take i es) (get_or es i d)
 
--- the newest of some entries
-pub trail_top : (es : List Entry) (n : ℕ) → 0 < n → trail_of es n ≡ entry_of (entry_at es (n - 1)) ∷ trail_of es (n - 1)
-trail_top es n h =
-    let e : n ≡ n - 1 + 1 = omega arith in
-    ap (trail_of es) e ∙ trail_more es (n - 1)
-
-pub trail_pop : (es : List Entry) (n : ℕ) → 0 < n → trail_of es (n - 1) ≡ tail_of (trail_of es n)
-trail_pop es n h = sym (ap tail_of (trail_top es n h))
-
-pub length-trail : (es : List Entry) (k : ℕ) → length (trail_of es k) ≡ k
+pub length-trail : (es : List Entry) → length (trail_of es) ≡ length es
 unfolding trail_of
-length-trail es zero = refl
-length-trail es (suc k) = ap suc (length-trail es k)
-
--- a change at a place shows in no older part
-pub trail_below : (es : List Entry) (n k : ℕ) (e : Entry) → k ≤ n → trail_of (set es n e) k ≡ trail_of es k
-unfolding trail_of
-trail_below es n zero e h = refl
-trail_below es n (suc k) e h = rw (get_or-set_other es n k e no_entry (omega arith), trail_below es n k e (omega arith))
-
-pub trail_push : (es : List Entry) (n : ℕ) (e : Entry) → n < length es → trail_of (set es n e) (suc n) ≡ entry_of e ∷ trail_of es n
-unfolding trail_of
-trail_push es n e h = rw (get_or-set_same es n e no_entry, trail_below es n n e (omega arith))
-
--- what is read inside an array does not depend on what is read past it
-pub get_d_any : {A : Type 0} (xs : List A) (i : ℕ) (d e : A) → i < length xs → get_or xs i d ≡ get_or xs i e
-get_d_any [] i d e h = absurd (omega arith)
-get_d_any (x ∷ xs) zero d e h = refl
-get_d_any (x ∷ xs) (suc i) d e h = get_d_any xs i d e (omega arith)
+length-trail es = length-map (reverse es) entry_of ∙ length-reverse es
 
 -- reasons
-pub is_reason_none : (es : List Entry) (i : ℕ) → is_reason (trail_of es 0) i ≡ false
-unfolding trail_of is_reason
-is_reason_none es i = refl
-
-pub is_reason_more : (es : List Entry) (k i : ℕ) → is_reason (trail_of es (k + 1)) i ≡ (is_place (reason_of (entry_at es k).reason) i || is_reason (trail_of es k) i)
+is_reason_any : (es : List Entry) (i : ℕ) → is_reason (map entry_of es) i ≡ list_any (λ e. is_place (reason_of e.reason) i) es
 unfolding is_reason
-is_reason_more es k i = ap (λ (t : calculus.Trail). is_reason t i) (trail_more es k)
+is_reason_any [] i = refl
+is_reason_any (e ∷ es) i = ap (λ b. is_place (reason_of e.reason) i || b) (is_reason_any es i)
 
-pub is_reason_at : (es : List Entry) (n k i : ℕ) → k < n → is_place (reason_of (entry_at es k).reason) i ≡ true → is_reason (trail_of es n) i ≡ true
-unfolding trail_of is_reason
-is_reason_at es zero k i h e = absurd (omega arith)
-is_reason_at es (suc n) k i h e =
-    ⊎_elim
-    (λ (q : k ≡ n).
-    or_left (is_place (reason_of (entry_at es n).reason) i) (is_reason (trail_of es n) i) (ap (λ (j : ℕ). is_place (reason_of (entry_at es j).reason) i) (sym q) ∙ e))
-    (λ (q : k ≡ n → ⊥). or_right (is_place (reason_of (entry_at es n).reason) i) (is_reason (trail_of es n) i) (is_reason_at es n k i (omega arith) e))
-    (cases_eq k n)
+pub is_reason_trail : (es : List Entry) (i : ℕ) → is_reason (trail_of es) i ≡ list_any (λ e. is_place (reason_of e.reason) i) es
+unfolding trail_of
+is_reason_trail es i =
+    is_reason_any (reverse es) i ∙ sym (list_any-IsPermutation (λ e. is_place (reason_of e.reason) i) es (reverse es) (IsPermutation-reverse es))
 
--- renaming, from the oldest entry on
-pub renamed_none : (es fs : List Entry) (p : ℕ) → trail_of es 0 ≡ renamed p (trail_of fs 0)
-unfolding trail_of renamed
-renamed_none es fs p = refl
+pub is_reason_none : (i : ℕ) → is_reason (trail_of []) i ≡ false
+unfolding is_reason
+is_reason_none i = ap (λ t. is_reason t i) trail_none
 
-pub renamed_more : (old now : List Entry) (p i : ℕ) (e : Entry) → i < length now → trail_of now i ≡ renamed p (trail_of old i)
-    → e.literal ≡ (entry_at old i).literal → e.level ≡ (entry_at old i).level → reason_of e.reason ≡ moved p (reason_of (entry_at old i).reason)
-    → trail_of (set now i e) (suc i) ≡ renamed p (trail_of old (suc i))
+pub is_reason_more : (es : List Entry) (k i : ℕ) (d : Entry) → k < length es → is_reason (trail_of (take (k + 1) es)) i ≡ (is_place (reason_of (get_or es k d).reason) i || is_reason (trail_of (take k es)) i)
+unfolding is_reason
+is_reason_more es k i d h = ap (λ (t : calculus.Trail). is_reason t i) (trail_more es k d h)
+
+pub renamed_none : (p : ℕ) → trail_of [] ≡ renamed p (trail_of [])
 unfolding renamed
-renamed_more old now p i e h rest same level why =
-    trail_push now i e h
-    ∙ ap₂ {C = calculus.Trail} (λ (a : calculus.Entry) (t : calculus.Trail). a ∷ t)
-    (ap₂ {C = calculus.Entry} (λ (l : ℕ) (r : calculus.Reason). record { literal = l; level = e.level; reason = r }) same why
-    ∙ ap (λ (k : ℕ). record { literal = (entry_at old i).literal; level = k; reason = moved p (reason_of (entry_at old i).reason) }) level)
-    rest
-    ∙ sym (ap (renamed p) (trail_suc old i))
+renamed_none p = trail_none ∙ sym (ap (renamed p) trail_none)
 
 -- one turn of a loop that renames
-pub renamed_turn : (old now : List Entry) (p i : ℕ) (e : Entry) → i < length now → ((k : ℕ) → k ≤ i → trail_of now k ≡ renamed p (trail_of old k))
-    → e.literal ≡ (entry_at old i).literal → e.level ≡ (entry_at old i).level → reason_of e.reason ≡ moved p (reason_of (entry_at old i).reason)
-    → (k : ℕ) → k ≤ i + 1 → trail_of (set now i e) k ≡ renamed p (trail_of old k)
-renamed_turn old now p i e h rest same level why k l =
-    ⊎_elim (λ (q : k < i + 1). trail_below now i k e (omega arith) ∙ rest k (omega arith))
-    (λ (q : i + 1 ≤ k).
-    let end : suc i ≡ k = omega arith in
-    subst (λ (j : ℕ). trail_of (set now i e) j ≡ renamed p (trail_of old j)) end (renamed_more old now p i e h (rest i (omega arith)) same level why))
-    (cases_lt k (i + 1))
-
--- cutting
-pub cut_none : (i : ℕ) (es : List Entry) → trail_of es 0 ≡ calculus.cut i (trail_of es 0)
-unfolding trail_of calculus.cut
-cut_none i es = refl
-
-pub cut_stops : (i : ℕ) (e : calculus.Entry) (t : calculus.Trail) → e.level ≤ i → calculus.cut i (e ∷ t) ≡ e ∷ t
-unfolding calculus.cut
-cut_stops i e t h = rw (le-leb e.level i h)
-
-pub cut_goes_on : (i : ℕ) (e : calculus.Entry) (t : calculus.Trail) → i < e.level → calculus.cut i (e ∷ t) ≡ calculus.cut i t
-unfolding calculus.cut
-cut_goes_on i e t h = rw (lt-leb e.level i h)
+pub renamed_turn : (old now : List Entry) (p i : ℕ) (e d : Entry) → i < length now → i < length old → trail_of (take i now) ≡ renamed p (trail_of (take i old))
+    → entry_of e ≡ record { literal = (get_or old i d).literal; level = (get_or old i d).level; reason = moved p (reason_of (get_or old i d).reason) }
+    → trail_of (take (i + 1) (set now i e)) ≡ renamed p (trail_of (take (i + 1) old))
+unfolding renamed
+renamed_turn old now p i e d h l rest same =
+    ap trail_of (take_more_set now i e h) ∙ trail_push (take i now) e
+    ∙ ap₂ {C = calculus.Trail} (λ (a : calculus.Entry) (t : calculus.Trail). a ∷ t) same rest
+    ∙ sym (ap (renamed p) (trail_more old i d l))
 
 -- writing the literals over the front of a list
 pub length-literals : (t : calculus.Trail) → length (literals_in t) ≡ length t
@@ -117,23 +64,64 @@ unfolding literals_in
 length-literals [] = refl
 length-literals (e ∷ t) = length-append (literals_in t) (e.literal ∷ []) ∙ omega (arith, length-literals t)
 
-pub literals_none : (es : List Entry) (xs : List ℕ) → xs ≡ literals_in (trail_of es 0) ++ drop 0 xs
-unfolding trail_of literals_in
-literals_none es xs = refl
-
-pub literals_more : (es : List Entry) (k : ℕ) → literals_in (trail_of es (k + 1)) ≡ literals_in (trail_of es k) ++ ((entry_at es k).literal ∷ [])
+literals_more : (es : List Entry) (k : ℕ) (d : Entry) → k < length es → literals_in (trail_of (take (k + 1) es)) ≡ literals_in (trail_of (take k es)) ++ ((get_or es k d).literal ∷ [])
 unfolding literals_in
-literals_more es k = ap literals_in (trail_more es k)
+literals_more es k d h = ap literals_in (trail_more es k d h)
 
-pub write_turn : (es : List Entry) (xs ys : List ℕ) (i y : ℕ) → i < length xs → ys ≡ literals_in (trail_of es i) ++ drop i xs → y ≡ (entry_at es i).literal
-    → set ys i y ≡ literals_in (trail_of es (i + 1)) ++ drop (i + 1) xs
-write_turn es xs ys i y h written e =
-    let front = literals_in (trail_of es i) in
+pub literals_none : (xs : List ℕ) → xs ≡ literals_in (trail_of []) ++ drop 0 xs
+unfolding literals_in
+literals_none xs = ap (λ (t : calculus.Trail). literals_in t ++ xs) (sym trail_none)
+
+pub write_turn : (es : List Entry) (xs ys : List ℕ) (i y : ℕ) (d : Entry) → i < length xs → i < length es → ys ≡ literals_in (trail_of (take i es)) ++ drop i xs → y ≡ (get_or es i d).literal
+    → set ys i y ≡ literals_in (trail_of (take (i + 1) es)) ++ drop (i + 1) xs
+write_turn es xs ys i y d h l written e =
+    let front = literals_in (trail_of (take i es)) in
     let none : i - i ≡ 0 = omega arith in
     ap (λ zs. set zs i y) written
-    ∙ set-append_right front (drop i xs) i i y (length-literals (trail_of es i) ∙ length-trail es i) (omega arith)
+    ∙ set-append_right front (drop i xs) i i y (length-literals (trail_of (take i es)) ∙ length-trail (take i es) ∙ length-take-le i es (omega arith)) (omega arith)
     ∙ ap (λ k. front ++ set (drop i xs) k y) none
     ∙ ap (λ zs. front ++ set zs 0 y) (drop_more xs i y h)
     ∙ sym (append_assoc front (y ∷ []) (drop (i + 1) xs))
     ∙ ap (λ z. (front ++ (z ∷ [])) ++ drop (i + 1) xs) e
-    ∙ ap (λ zs. zs ++ drop (i + 1) xs) (sym (literals_more es i))
+    ∙ ap (λ zs. zs ++ drop (i + 1) xs) (sym (literals_more es i d l))
+
+-- the newest of some entries
+top_from : (t r : calculus.Trail) (e : Entry) → t ≡ entry_of e ∷ r → Top t (Some e)
+top_from t r e h = h ∙ ap (λ (s : calculus.Trail). entry_of e ∷ s) (sym (ap tail_of h))
+
+pub top_of : (es : List Entry) (o : Option Entry) → o ≡ slice_get es (length es - 1) → Top (trail_of es) o
+top_of es None e =
+    elim (slice_get_cases es (length es - 1)).1 [
+      | inl h ↦ absurd (let at = h.2 in cc)
+      | inr h ↦ ap trail_of (nil_from_length es (omega (arith, h.0))) ∙ trail_none
+    ]
+top_of es (Some x) e =
+    let i = length es - 1 in
+    let h = slice_get_within es i x (sym e) in
+    let more : es ≡ take i es ++ x ∷ [] =
+    sym (take_all (i + 1) es (omega arith)) ∙ take_more es i x h ∙ ap (λ y. take i es ++ y ∷ []) (get_or_from_slice_get es i x x (sym e))
+    in
+    top_from (trail_of es) (trail_of (take i es)) x (ap trail_of more ∙ trail_push (take i es) x)
+
+-- the level of a trail is that of its newest entry
+pub level_top : (t : calculus.Trail) (o : Option Entry) (r : ℕ) → calculus.Levelled t → Top t o → MatchOption o (r ≡ 0) (λ e. r ≡ e.level) → r ≡ calculus.level t
+unfolding calculus.level
+level_top t None r w top h = h ∙ sym (ap calculus.level top)
+level_top t (Some e) r w top h = h ∙ (subst calculus.Levelled top w).0 ∙ sym (ap calculus.level top)
+
+-- cutting, where b says whether the newest entry is above the level i
+module _ (i : ℕ) (t : calculus.Trail) where
+  pub cut_goes_on : (o : Option Entry) (b : Bool) → Top t o → MatchOption o (b ≡ false) (λ e. b ≡ ltb i e.level) → b ≡ true → calculus.cut i (tail_of t) ≡ calculus.cut i t
+  unfolding calculus.cut
+  cut_goes_on None b top h above = absurd (both_ways b h above)
+  cut_goes_on (Some e) b top h above = sym (ap (calculus.cut i) top ∙ cond-false (leb e.level i) (entry_of e ∷ tail_of t) (calculus.cut i (tail_of t)) (lt-leb e.level i (ltb-true i e.level (sym h ∙ above))))
+
+  pub cut_stops : (o : Option Entry) (b : Bool) → Top t o → MatchOption o (b ≡ false) (λ e. b ≡ ltb i e.level) → b ≡ false → t ≡ calculus.cut i t
+  unfolding calculus.cut
+  cut_stops None b top h below = top ∙ sym (ap (calculus.cut i) top)
+  cut_stops (Some e) b top h below =
+      top ∙ sym (ap (calculus.cut i) top ∙ cond-true (leb e.level i) (entry_of e ∷ tail_of t) (calculus.cut i (tail_of t)) (le-leb e.level i (ltb-false i e.level (sym h ∙ below))))
+
+  pub shorter : (o : Option Entry) (b : Bool) → Top t o → MatchOption o (b ≡ false) (λ e. b ≡ ltb i e.level) → b ≡ true → length (tail_of t) < length t
+  shorter None b top h above = absurd (both_ways b h above)
+  shorter (Some e) b top h above = omega (arith, ap length top)

@@ -6,16 +6,16 @@ use Rattle.calculus.proofs.Trails.{Distinct}
 use Rattle.trails.specs.declared.trail.Trail.{Trail}
 use Rattle.trails.specs.Trails.{listed}
 use Rattle.trails.proofs.Entries.{length-trail}
-use Rattle.trails.proofs.Held.{levelled_of, apart_of}
+use Rattle.trails.proofs.Held.{apart_of}
 
 pub levelled : (t : Trail) → Levelled (listed t)
-levelled t = levelled_of t.entries t.height t.levelled
+levelled t = t.levelled
 
 pub apart : (t : Trail) → Distinct 64 (listed t)
-apart t = apart_of t.entries t.height t.was_unset t.was_not_false
+apart t = apart_of t.entries.items t.was_unset t.was_not_false
 
 pub few : (t : Trail) → length (listed t) ≤ 56
-few t = omega (arith, length-trail t.entries t.height, t.low)
+few t = omega (arith, length-trail t.entries.items, t.low)
 
 pub literals_small : (t : Trail) (x : ℕ) → on (listed t) x ≡ true → x < 128
 literals_small t x h = calculus.on_range 64 (listed t) x (apart t) h

@@ -1,34 +1,33 @@
--- What every trail keeps, from its entries one by one.
-use Rattle.std.proofs.Common.{◌≡◌, ℕ, zero, suc, ◌+◌, ◌-◌, ◌<◌, ◌≤◌, Bool, true, false, not, ◌&&◌, ◌||◌, eqb, ltb, List, [], ◌∷◌, length, set, sym, refl, ap, ◌∙◌, subst, ap₂, ⊎_elim, add-one, arith}
-use Rattle.std.proofs.lemmas.List.{get_or-set_same, get_or-set_other}
+-- What every trail keeps, from its entries.
+use Rattle.std.proofs.Common.{◌≡◌, ℕ, ◌<◌, Bool, false, not, ◌&&◌, ◌||◌, eqb, ltb, List, [], ◌∷◌, ◌++◌, map, reverse, length, sym, ap, ◌∙◌, subst, ap₂, ⊎_elim, true, arith}
 use Rattle.std.proofs.lemmas.Bool.{cases_eq, eq-eqb, ne_eqb, lt-ltb, ltb-true, not-true, and_parts}
 use Rattle.cases.specs.Literals.{complement}
+use Rattle.cases.proofs.Tests.{eqb_swap}
 use Rattle.calculus.specs.Trails as calculus
-use Rattle.calculus.specs.Trails.{on, level, Levelled}
-use Rattle.calculus.specs.Learned.{renamed}
+use Rattle.calculus.specs.Trails.{on, Levelled}
 use Rattle.calculus.proofs.Literals.{complement_range, complement_swap}
-use Rattle.calculus.proofs.Reasons.{on_renamed, level_renamed}
 use Rattle.calculus.proofs.Trails.{Distinct}
 use Rattle.trails.specs.declared.entry.Entry.{Entry}
-use Rattle.trails.specs.Entries.{trail_of, entry_of, entry_at, no_entry}
+use Rattle.trails.specs.Entries.{trail_of, entry_of}
+use Rattle.trails.specs.Kept.{WasUnset, WasNotFalse}
 use Rattle.trails.specs.Trails.{has_place}
-use Rattle.trails.proofs.Entries.{trail_top, trail_below, trail_push}
+use Rattle.trails.proofs.Entries.{trail_none, trail_push}
 
-pub levelled_of : (es : List Entry) (n : ℕ) → ((k : ℕ) → k < n → (entry_at es k).level ≡ level (trail_of es (suc k))) → Levelled (trail_of es n)
+small_apart : (es : List Entry) → WasUnset (map entry_of es) → WasNotFalse (map entry_of es) → Distinct 64 (map entry_of es)
+small_apart [] u v = tt
+small_apart (e ∷ es) u v = (record { in_range = e.small; not_set = u.0; not_false = v.0 }, small_apart es u.1 v.1)
+
+pub apart_of : (es : List Entry) → WasUnset (trail_of es) → WasNotFalse (trail_of es) → Distinct 64 (trail_of es)
 unfolding trail_of
-levelled_of es zero h = tt
-levelled_of es (suc n) h = (h n (omega arith), levelled_of es n (λ k l. h k (omega arith)))
+apart_of es u v = small_apart (reverse es) u v
 
-pub apart_of : (es : List Entry) (n : ℕ) → ((k : ℕ) → k < n → on (trail_of es k) (entry_at es k).literal ≡ false)
-    → ((k : ℕ) → k < n → on (trail_of es k) (complement (entry_at es k).literal) ≡ false) → Distinct 64 (trail_of es n)
-unfolding trail_of
-apart_of es zero u v = tt
-apart_of es (suc n) u v =
-    (record { in_range = (entry_at es n).small; not_set = u n (omega arith); not_false = v n (omega arith) }, apart_of es n (λ k l. u k (omega arith)) (λ k l. v k (omega arith)))
+pub unset_of : (n : ℕ) (t : calculus.Trail) → Distinct n t → WasUnset t
+unset_of n [] d = tt
+unset_of n (e ∷ t) d = (d.0.not_set, unset_of n t d.1)
 
--- a literal and its complement, from either side
-pub eqb_swap : (a b : ℕ) → eqb a b ≡ eqb b a
-eqb_swap a b = ⊎_elim (λ (e : a ≡ b). eq-eqb a b e ∙ sym (eq-eqb b a (sym e))) (λ (e : a ≡ b → ⊥). ne_eqb a b e ∙ sym (ne_eqb b a (λ z. e (sym z)))) (cases_eq a b)
+pub not_false_of : (n : ℕ) (t : calculus.Trail) → Distinct n t → WasNotFalse t
+not_false_of n [] d = tt
+not_false_of n (e ∷ t) d = (d.0.not_false, not_false_of n t d.1)
 
 -- what joins a set as the complement of l
 pub eqb_complement : (x l : ℕ) → eqb x (complement l) ≡ eqb l (complement x)
@@ -54,38 +53,23 @@ place_parts t l h =
     let d = and_parts (not (on t l)) (not (on t (complement l))) b.1 in
     (ltb-true (length t) 56 a.0, ltb-true l 128 b.0, not-true (on t l) d.0, not-true (on t (complement l)) d.1)
 
--- nothing is on an empty trail
-pub on_empty : (es : List Entry) (x : ℕ) → on (trail_of es 0) x ≡ false
-unfolding trail_of on
-on_empty es x = refl
+-- what no entry keeps
+module _ (es : List Entry) (none : es ≡ []) where
+  empty_trail : trail_of es ≡ []
+  empty_trail = ap trail_of none ∙ trail_none
 
--- one entry more
-module _ (es : List Entry) (n : ℕ) (e : Entry) (h : n < length es) where
-  pub later : (P : Entry → calculus.Trail → Type 0) → ((k : ℕ) → k < n → P (entry_at es k) (trail_of es k)) → P e (trail_of es n)
-      → (k : ℕ) → k < n + 1 → P (entry_at (set es n e) k) (trail_of (set es n e) k)
-  later P old new k l =
-      ⊎_elim
-      (λ (q : k ≡ n).
-      subst (λ (j : ℕ). P (entry_at (set es n e) j) (trail_of (set es n e) j)) (sym q) (rw (get_or-set_same es n e no_entry h, trail_below es n n e (omega arith)) new))
-      (λ (q : k ≡ n → ⊥). rw (get_or-set_other es n k e no_entry q, trail_below es n k e (omega arith)) (old k (omega arith)))
-      (cases_eq k n)
-
-  pub levels_later : ((k : ℕ) → k < n → (entry_at es k).level ≡ level (trail_of es (suc k))) → e.level ≡ level (entry_of e ∷ trail_of es n)
-      → (k : ℕ) → k < n + 1 → (entry_at (set es n e) k).level ≡ level (trail_of (set es n e) (suc k))
-  unfolding trail_of
-  levels_later old new = later (λ (a : Entry) (t : calculus.Trail). a.level ≡ level (entry_of a ∷ t)) old new
-
-  pub on_later : (x : ℕ) → on (trail_of (set es n e) (n + 1)) x ≡ (eqb e.literal x || on (trail_of es n) x)
+  pub on_none : (x : ℕ) → false ≡ on (trail_of es) x
   unfolding on
-  on_later x = ap (λ (t : calculus.Trail). on t x) (ap (trail_of (set es n e)) (add-one n) ∙ trail_push es n e h)
+  on_none x = sym (ap (λ (t : calculus.Trail). on t x) empty_trail)
 
-  pub told_later : (s : ℕ → Bool) (x : ℕ) → s x ≡ on (trail_of es n) x → ((eqb x e.literal && ltb x 128) || s x) ≡ on (trail_of (set es n e) (n + 1)) x
-  told_later s x old = ap₂ (λ (a b : Bool). a || b) (has_bit x e.literal e.small) old ∙ sym (on_later x)
+  pub levelled_none : Levelled (trail_of es)
+  levelled_none = subst Levelled (sym empty_trail) tt
 
-  pub opposed_later : (s : ℕ → Bool) (x c : ℕ) → c ≡ complement e.literal → s x ≡ on (trail_of es n) (complement x)
-      → ((eqb x c && ltb x 128) || s x) ≡ on (trail_of (set es n e) (n + 1)) (complement x)
-  opposed_later s x c i old =
-      ap (λ (z : ℕ). (eqb x z && ltb x 128) || s x) i ∙ ap₂ (λ (a b : Bool). a || b) (has_complement_bit x e.literal e.small) old ∙ sym (on_later (complement x))
+  pub unset_none : WasUnset (trail_of es)
+  unset_none = subst WasUnset (sym empty_trail) tt
+
+  pub not_false_none : WasNotFalse (trail_of es)
+  not_false_none = subst WasNotFalse (sym empty_trail) tt
 
 -- one entry less
 on_without : (e : calculus.Entry) (t : calculus.Trail) (x : ℕ) → on t e.literal ≡ false → (not (eqb x e.literal) && on (e ∷ t) x) ≡ on t x
@@ -95,36 +79,28 @@ on_without e t x h =
     (λ (q : x ≡ e.literal → ⊥). rw (ne_eqb x e.literal q, ne_eqb e.literal x (λ z. q (sym z))))
     (cases_eq x e.literal)
 
-module _ (es : List Entry) (n : ℕ) (l : ℕ) (h : 0 < n) (i : l ≡ (entry_at es (n - 1)).literal) (new : on (trail_of es (n - 1)) (entry_at es (n - 1)).literal ≡ false) where
-  pub told_before : (s : ℕ → Bool) (x : ℕ) → s x ≡ on (trail_of es n) x → (not (eqb x l) && s x) ≡ on (trail_of es (n - 1)) x
-  told_before s x old =
-      ap₂ (λ (a : ℕ) (b : Bool). not (eqb x a) && b) i (old ∙ ap (λ (t : calculus.Trail). on t x) (trail_top es n h))
-      ∙ on_without (entry_of (entry_at es (n - 1))) (trail_of es (n - 1)) x new
+-- the entries `long` are those of `short` and then e
+module _ (short long : List Entry) (e : Entry) (more : long ≡ short ++ e ∷ []) where
+  pub grown : trail_of long ≡ entry_of e ∷ trail_of short
+  grown = ap trail_of more ∙ trail_push short e
 
-  pub opposed_before : (s : ℕ → Bool) (x c : ℕ) → c ≡ complement l → s x ≡ on (trail_of es n) (complement x) → (not (eqb x c) && s x) ≡ on (trail_of es (n - 1)) (complement x)
-  opposed_before s x c j old =
-      ap (λ (b : Bool). not b && s x) (ap (eqb x) j ∙ eqb_complement x l ∙ eqb_swap l (complement x)) ∙ told_before (λ (z : ℕ). s x) (complement x) old
+  on_later : (x : ℕ) → on (trail_of long) x ≡ (eqb e.literal x || on (trail_of short) x)
+  unfolding on
+  on_later x = ap (λ (t : calculus.Trail). on t x) grown
 
--- entries under other reasons
-module _ (old new : List Entry) (n p : ℕ) (same : (k : ℕ) → k ≤ n → trail_of new k ≡ renamed p (trail_of old k)) where
-  pub on_same : (k x : ℕ) → k ≤ n → on (trail_of new k) x ≡ on (trail_of old k) x
-  on_same k x h = ap (λ (t : calculus.Trail). on t x) (same k h) ∙ on_renamed p (trail_of old k) x
+  pub told_later : (s : ℕ → Bool) (x : ℕ) → s x ≡ on (trail_of short) x → ((eqb x e.literal && ltb x 128) || s x) ≡ on (trail_of long) x
+  told_later s x old = ap₂ (λ (a b : Bool). a || b) (has_bit x e.literal e.small) old ∙ sym (on_later x)
 
-  pub level_same : (k : ℕ) → k ≤ n → level (trail_of new k) ≡ level (trail_of old k)
-  level_same k h = ap level (same k h) ∙ level_renamed p (trail_of old k)
+  pub opposed_later : (s : ℕ → Bool) (x c : ℕ) → c ≡ complement e.literal → s x ≡ on (trail_of short) (complement x)
+      → ((eqb x c && ltb x 128) || s x) ≡ on (trail_of long) (complement x)
+  opposed_later s x c i old =
+      ap (λ (z : ℕ). (eqb x z && ltb x 128) || s x) i ∙ ap₂ (λ (a b : Bool). a || b) (has_complement_bit x e.literal e.small) old ∙ sym (on_later (complement x))
 
-  abbrev head_literal : calculus.Trail → ℕ
-  head_literal [] = 0
-  head_literal (e ∷ t) = e.literal
+  pub told_before : (s : ℕ → Bool) (x : ℕ) → on (trail_of short) e.literal ≡ false → s x ≡ on (trail_of long) x → (not (eqb x e.literal) && s x) ≡ on (trail_of short) x
+  told_before s x new old =
+      ap (λ (b : Bool). not (eqb x e.literal) && b) (old ∙ ap (λ (t : calculus.Trail). on t x) grown) ∙ on_without (entry_of e) (trail_of short) x new
 
-  abbrev head_level : calculus.Trail → ℕ
-  head_level [] = 0
-  head_level (e ∷ t) = e.level
-
-  pub literal_same : (k : ℕ) → k < n → (entry_at new k).literal ≡ (entry_at old k).literal
-  unfolding trail_of renamed
-  literal_same k h = ap head_literal (same (suc k) h)
-
-  pub entry_level_same : (k : ℕ) → k < n → (entry_at new k).level ≡ (entry_at old k).level
-  unfolding trail_of renamed
-  entry_level_same k h = ap head_level (same (suc k) h)
+  pub opposed_before : (s : ℕ → Bool) (x c : ℕ) → on (trail_of short) e.literal ≡ false → c ≡ complement e.literal → s x ≡ on (trail_of long) (complement x)
+      → (not (eqb x c) && s x) ≡ on (trail_of short) (complement x)
+  opposed_before s x c new j old =
+      ap (λ (b : Bool). not b && s x) (ap (eqb x) j ∙ eqb_complement x e.literal ∙ eqb_swap e.literal (complement x)) ∙ told_before (λ (z : ℕ). s x) (complement x) new old

@@ -1,19 +1,14 @@
 -- Levels on a trail whose levels are right: the newest literals are those of its own level, and of some literals the
 -- newest has the greatest.
-use Rattle.std.proofs.Common.{◌≡◌, ℕ, suc, ◌<◌, ◌≤◌, Bool, true, false, cond, ◌&&◌, ◌||◌, eqb, ◌⊎◌, [], ◌∷◌, length, sym, refl, ap, ◌∙◌, subst, inl, inr, ⊎_elim, arith}
+use Rattle.std.proofs.Common.{◌≡◌, ℕ, ◌<◌, ◌≤◌, Bool, true, false, cond, ◌&&◌, ◌||◌, eqb, ◌⊎◌, [], ◌∷◌, length, sym, refl, ap, ◌∙◌, subst, inl, inr, ⊎_elim, arith}
 use Rattle.std.proofs.lemmas.Bool.{cases_Bool, cases_eq, both_ways, eq-eqb, ne_eqb, and_right}
 use Rattle.cases.specs.Literals.{Literals, complement}
 use Rattle.calculus.specs.Scans.{greatest}
-use Rattle.calculus.specs.Trails.{Trail, Entry, Reason, decided, forced, on, opened, level, level_of, Levelled}
+use Rattle.calculus.specs.Trails.{Trail, Entry, on, level, level_of, Levelled}
 use Rattle.calculus.proofs.Literals.{complement_twice, complement_range}
 use Rattle.calculus.proofs.Scans.{greatest_above, greatest_reached}
 use Rattle.calculus.proofs.Tests.{level_of_own, level_of_other}
-use Rattle.calculus.proofs.Trails.{level_of_le, opened_up, Distinct}
-
-opened_by : (r : Reason) (k : ℕ) → opened r k ≤ suc k
-unfolding opened
-opened_by decided k = omega arith
-opened_by (forced i) k = omega arith
+use Rattle.calculus.proofs.Trails.{level_of_le, opened_up, opened_by, Distinct}
 
 pub level_length : (t : Trail) → level t ≤ length t
 unfolding level

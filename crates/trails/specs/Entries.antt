@@ -1,6 +1,5 @@
--- What an array of entries stands for: a trail, whose newest entry stands first.
-use Rattle.std.specs.Prelude.{◌≡◌, ℕ, zero, suc, List, [], ◌∷◌, ◌++◌, Some, None, Option, slice_index_or}
-use Rattle.std.proofs.Common.{arith}
+-- What a list of entries stands for: a trail, whose newest entry stands first.
+use Rattle.std.specs.Prelude.{◌≡◌, ℕ, List, [], ◌∷◌, ◌++◌, map, reverse, Some, None, Option}
 use Rattle.calculus.specs.Trails as calculus
 use Rattle.trails.specs.declared.entry.Reason.{Reason}
 use Rattle.trails.specs.declared.entry.Reason.TheVariants.{Decided, Forced}
@@ -13,17 +12,13 @@ reason_of (Forced i) = calculus.forced i
 abbrev pub entry_of : Entry → calculus.Entry
 entry_of e = record { literal = e.literal; level = e.level; reason = reason_of e.reason }
 
--- What is read past the end of an array.
-abbrev pub no_entry : Entry
-no_entry = record { literal = 0; level = 0; reason = Decided; small = omega arith }
+-- What stands where no entry does.
+abbrev pub no_entry : calculus.Entry
+no_entry = record { literal = 0; level = 0; reason = calculus.decided }
 
-abbrev pub entry_at : List Entry → ℕ → Entry
-entry_at es k = slice_index_or es k no_entry
-
--- The trail of the first k entries.
-unfoldable pub trail_of : List Entry → ℕ → calculus.Trail
-trail_of es zero = []
-trail_of es (suc k) = entry_of (entry_at es k) ∷ trail_of es k
+-- The trail of some entries, oldest first.
+unfoldable pub trail_of : List Entry → calculus.Trail
+trail_of es = map entry_of (reverse es)
 
 -- The trail t with one literal more, at the level that its reason gives it.
 abbrev pub joined : ℕ → Reason → calculus.Trail → calculus.Trail

@@ -7,7 +7,7 @@ use Rattle.trails.specs.declared.trail.Trail.{Trail}
 use Rattle.trails.specs.Entries.{trail_of}
 
 abbrev pub listed : Trail → calculus.Trail
-listed t = trail_of t.entries t.height
+listed t = trail_of t.entries.items
 
 -- A literal can join: the trail is not full, it is a literal, and the trail leaves its option unset.
 abbrev pub has_place : calculus.Trail → ℕ → Bool

@@ -2,7 +2,8 @@
 ghost use Rattle.std.specs.Prelude.{◌<◌};
 
 // A literal was decided, or forced by the rule at a place among the rules in force and then the learned ones.
-#[derive(Clone, Copy)]
+// It has the shape of an Option, and stays an enum: no plainer, as None and Some do not say which of the two is the decision.
+#[derive(Clone, Copy, PartialEq, Eq, Debug)]
 pub enum Reason {
     Decided,
     Forced(u16),
@@ -17,3 +18,4 @@ pub struct Entry {
 }
 
 mod asks;
+mod blank;

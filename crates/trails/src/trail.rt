@@ -1,28 +1,31 @@
 // The trail, with the set of its literals and that of their complements.
 // Every value of the type keeps its levels right, and sets no option twice.
-ghost use Rattle.std.specs.Prelude.{◌≡◌, ℕ, suc, ◌<◌, ◌≤◌, false, length};
+ghost use Rattle.std.specs.Prelude.{◌≡◌, ℕ, ◌≤◌};
 ghost use Rattle.cases.specs.Literals.{complement};
-ghost use Rattle.calculus.specs.Trails.{on, level};
+ghost use Rattle.calculus.specs.Trails.{on, Levelled};
 ghost use Rattle.literals.specs.Members.{member};
-ghost use Rattle.trails.specs.Entries.{entry_at, trail_of};
+ghost use Rattle.arrayvec.specs.ArrayVec.{array_vec_len};
+ghost use Rattle.trails.specs.Entries.{trail_of};
+ghost use Rattle.trails.specs.Kept.{WasUnset, WasNotFalse, Levelled-prop, WasUnset-prop, WasNotFalse-prop};
 
 use crate::entry::Entry;
+use arrayvec::ArrayVec;
+use cases::limits::MOST_OPTIONS;
 use literals::LiteralSet;
 
 // The entries, oldest first.
-#[derive(Clone, Copy)]
+// No Clone: over a ghost field none is derived, and one by hand would answer a Result, as that of an ArrayVec does.
+#[derive(Drop)]
 pub struct Trail {
-    entries: [Entry; 56],
-    height: usize,
+    entries: ArrayVec<Entry, MOST_OPTIONS>,
     set: LiteralSet,
     against: LiteralSet,
-    ghost low: { height ≤ 56 },
-    ghost places: { length entries ≡ 56 },
-    ghost told: { (x : ℕ) → member set x ≡ on (trail_of entries height) x },
-    ghost opposed: { (x : ℕ) → member against x ≡ on (trail_of entries height) (complement x) },
-    ghost levelled: { (k : ℕ) → k < height → (entry_at entries k).level ≡ level (trail_of entries (suc k)) },
-    ghost was_unset: { (k : ℕ) → k < height → on (trail_of entries k) (entry_at entries k).literal ≡ false },
-    ghost was_not_false: { (k : ℕ) → k < height → on (trail_of entries k) (complement (entry_at entries k).literal) ≡ false },
+    ghost low: { array_vec_len entries ≤ 56 },
+    ghost told: { (x : ℕ) → member set x ≡ on (trail_of entries.items) x },
+    ghost opposed: { (x : ℕ) → member against x ≡ on (trail_of entries.items) (complement x) },
+    ghost levelled: { Levelled (trail_of entries.items) } by { Levelled-prop _ },
+    ghost was_unset: { WasUnset (trail_of entries.items) } by { WasUnset-prop _ },
+    ghost was_not_false: { WasNotFalse (trail_of entries.items) } by { WasNotFalse-prop _ },
 }
 
 mod acts;

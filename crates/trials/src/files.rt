@@ -1,55 +1,66 @@
 // Byte strings, good and damaged, and how each is judged.
 use casefile::fault::{Fault, FileRefusal};
 use casefile::file::FileCase;
+use casefile::writer::encoded_len;
 use cases::case::Case;
 use std::test::Fail;
 
-// Two options, an amount for each literal, one rule.
+// Two options, an amount for each literal, one rule. The tests of caseinfo write it out too: tests hand nothing to another crate.
 pub const TWO: [u8; 45] =
     *b"\x01\0\x02\0\x02\x02\0\x05\0\0\0\0\x05\x02\0\x05\x01\0\0\0\x01\x02\0\x05\x02\0\0\0\x02\x02\0\x05\x03\0\0\0\x03\x03\0\x02\0\x02\x04\0\0";
 
-// The refusal's number and place; (0, 0) for an accepted file.
+// The refusal's number and place; (0, 0) for an accepted file, which no refusal has: the expected values are pairs of numbers.
 fn judged(bytes: &[u8]) -> (u8, usize) {
-    match FileCase::open(bytes).refusal {
-        None => (0, 0),
-        Some(refusal) => (refusal.fault.number(), refusal.place),
+    match FileCase::open(bytes) {
+        Ok(_) => (0, 0),
+        Err(refusal) => (refusal.fault.number(), refusal.place),
     }
 }
 
 // Where the field begins that byte `at` of TWO belongs to.
 fn field_of(at: usize) -> usize {
-    let mut start = 0;
-    for place in [5, 13, 21, 29, 37, 42] {
-        if place <= at {
-            start = place;
-        }
-    }
-    start
+    [5, 13, 21, 29, 37, 42]
+        .into_iter()
+        .filter(|place| *place <= at)
+        .last()
+        .unwrap_or(0)
 }
 
 #[test]
 fn the_two_option_file(rt: HostRuntime) {
     let reading = FileCase::open(&TWO);
-    assert!(rt; reading.refusal.is_none());
-    assert!(rt; !reading.case.oversize());
-    assert_eq!(rt; reading.case.options(), 2);
-    assert_eq!(rt; reading.case.rules(), 1);
-    assert_eq!(rt; reading.case.rule_len(0), 2);
-    assert_eq!(rt; reading.case.literal(0, 0), 0);
-    assert_eq!(rt; reading.case.literal(0, 1), 2);
-    assert_eq!(rt; reading.case.amount(0), 5);
-    assert_eq!(rt; reading.case.amount(3), 3);
+    assert!(rt; reading.is_ok());
+    let case = reading.unwrap();
+    assert!(rt; !case.oversize());
+    assert_eq!(rt; case.options(), 2);
+    assert_eq!(rt; case.rules(), 1);
+    assert_eq!(rt; case.rule_len(0), 2);
+    assert_eq!(rt; case.literal(0, 0), 0);
+    assert_eq!(rt; case.literal(0, 1), 2);
+    assert_eq!(rt; case.amount(0), 5);
+    assert_eq!(rt; case.amount(3), 3);
 }
 
 #[test]
 fn outside_the_ranges(rt: HostRuntime) {
     let reading = FileCase::open(&TWO);
-    assert_eq!(rt; reading.case.rule_len(1), 0);
-    assert_eq!(rt; reading.case.literal(0, 2), 255);
-    assert_eq!(rt; reading.case.literal(1, 0), 255);
-    assert_eq!(rt; reading.case.literal(usize::MAX, usize::MAX), 255);
-    assert_eq!(rt; reading.case.amount(4), 0);
-    assert_eq!(rt; reading.case.amount(255), 0);
+    assert!(rt; reading.is_ok());
+    let case = reading.unwrap();
+    assert_eq!(rt; case.rule_len(1), 0);
+    assert_eq!(rt; case.literal(0, 2), 255);
+    assert_eq!(rt; case.literal(1, 0), 255);
+    assert_eq!(rt; case.literal(usize::MAX, usize::MAX), 255);
+    assert_eq!(rt; case.amount(4), 0);
+    assert_eq!(rt; case.amount(255), 0);
+}
+
+// The case that a caller may take in place of a file that is refused.
+#[test]
+fn the_empty_file(rt: HostRuntime) {
+    let case = FileCase::empty();
+    assert_eq!(rt; case.options(), 0);
+    assert_eq!(rt; case.rules(), 0);
+    assert_eq!(rt; encoded_len(&case), 8);
 }
 
 #[test]
@@ -62,8 +73,8 @@ fn cut_at_each_byte(rt: HostRuntime) {
 
 #[test]
 fn bytes_after_the_end(rt: HostRuntime) {
-    let mut longer =
-        *b"\x01\0\x02\0\x02\x02\0\x05\0\0\0\0\x05\x02\0\x05\x01\0\0\0\x01\x02\0\x05\x02\0\0\0\x02\x02\0\x05\x03\0\0\0\x03\x03\0\x02\0\x02\x04\0\0\0\0\0";
+    let mut longer = [0u8; 48];
+    longer[..45].copy_from_slice(&TWO);
     assert_eq!(rt; judged(&longer[0..46]), (10, 45));
     assert_eq!(rt; judged(&longer), (10, 45));
     longer[45] = 4;
@@ -168,14 +179,13 @@ fn pairs_of_faults(rt: HostRuntime) {
     );
 }
 
-// No options and so many empty rules.
+// No options and so many empty rules; answers the length, and 0 where there is no room for the end. An array and its length: the tests
+// damage bytes of it by their places, as this writes the tags by theirs.
 fn with_rules(bytes: &mut [u8; 1552], count: usize) -> usize {
     bytes[0] = 1;
     bytes[2] = 2;
-    for r in 0..513 {
-        if r < count {
-            bytes[5 + 3 * r] = 3;
-        }
+    for r in 0..count.min(513) {
+        bytes[5 + 3 * r] = 3;
     }
     if count < 514 {
         bytes[5 + 3 * count] = 4;

@@ -21,10 +21,11 @@ fn a_ladder_of_three(rt: HostRuntime) {
     assert_eq!(rt; out[42], 9);
     assert_eq!(rt; out[43], 9);
     let reading = FileCase::open(&out[0..42]);
-    assert!(rt; reading.refusal.is_none());
-    assert_eq!(rt; reading.case.rules(), ladder.rules());
-    assert_eq!(rt; reading.case.literal(1, 0), 5);
-    assert_eq!(rt; reading.case.literal(1, 1), 2);
+    assert!(rt; reading.is_ok());
+    let case = reading.unwrap();
+    assert_eq!(rt; case.rules(), ladder.rules());
+    assert_eq!(rt; case.literal(1, 0), 5);
+    assert_eq!(rt; case.literal(1, 1), 2);
 }
 
 #[test]
@@ -47,12 +48,14 @@ fn refusals_write_nothing(rt: HostRuntime) {
 #[test]
 fn a_file_written_again(rt: HostRuntime) {
     let reading = FileCase::open(&TWO);
+    assert!(rt; reading.is_ok());
+    let case = reading.unwrap();
     let mut out = [9u8; 46];
-    assert_eq!(rt; reading.case.rewrite(&mut out), Ok(45));
+    assert_eq!(rt; case.rewrite(&mut out), Ok(45));
     assert!(rt; out[0..45] == TWO[..]);
     assert_eq!(rt; out[45], 9);
     let mut short = [9u8; 44];
-    assert_eq!(rt; reading.case.rewrite(&mut short), Err(Refusal::ShortBuffer));
+    assert_eq!(rt; case.rewrite(&mut short), Err(Refusal::ShortBuffer));
     assert!(rt; short == [9u8; 44]);
 }
 

@@ -3,9 +3,11 @@ ghost use Rattle.std.specs.Prelude.{◌^◌, ◌<◌};
 
 use layers::row::Row;
 
-#[derive(Clone, Copy)]
+#[derive(Drop)]
 pub struct HeldWish {
     pub literals: Row,
     pub amount: u32,
     ghost fits: { amount < 2 ^ 32 },
 }
+
+mod none;

@@ -1,48 +1,36 @@
 // The wish layer as a case, and how wishes are added.
-ghost use Rattle.std.specs.Prelude.{◌≡◌, ◌<◌, ◌≤◌, false, [], ◌∷◌, ◌++◌, length, drop, MatchResult, OnOk, slice_index_or};
+ghost use Rattle.std.specs.Prelude.{◌≡◌, ◌<◌, ◌≤◌, false, [], ◌∷◌, ◌++◌, length, drop, MatchOption, MatchResult, OnOk, slice_index_or};
 ghost use Rattle.cases.specs.Meanings.{is_oversize, options_of};
 ghost use Rattle.layers.specs.Checks.{unless_refused};
 ghost use Rattle.layers.specs.Readings.{read_faults, first_options};
 ghost use Rattle.layers.specs.Rows.{past_all};
-ghost use Rattle.wishes.specs.Wishes.{wishing, wishes_fit, wish_room, wish_check, wish_for};
+ghost use Rattle.wishes.specs.Wishes.{wishing, wish_check, wish_for};
 ghost use Rattle.wishes.specs.Facts.Wishes.{limited_wishing, no_wish};
 ghost use Rattle.wishes.specs.WishViews.{wish_of};
+ghost use Rattle.arrayvec.specs.ArrayVec.{array_vec_len};
 ghost use Rattle.wishes.specs.Facts.WishLayers.{wishes_of, held_wishes};
 
 use crate::held::HeldWish;
-use crate::reading::write_first;
 use crate::state::Wishes;
+use arrayvec::ArrayVec;
 use cases::case::Case;
 use cases::limits::{MOST_OPTIONS, MOST_RULES};
 use cases::refusal::Refusal;
-use layers::lists::{larger, past_all};
+use layers::lists::past_all;
+use layers::marks::{is_set, read_front};
 use layers::row::Row;
-
-const MOST_WISHES: usize = 8;
 
 const LONGEST_WISH: usize = 16;
 
-// Whether a case of so many options and rules has the literals of so many wishes, and leaves room for them.
-fn wishes_fit(held: usize, reach: usize, options: usize, rules: usize) -> bool
-    requires { held ≤ 8 }
-    ensures { result ≡ wishes_fit held reach options rules }
-{
-    options <= MOST_OPTIONS - held && rules <= MOST_RULES - held && reach <= 2 * options
-}
-
 impl<C: Case> Wishes<C> {
+    // Each layer has a `new` and a `below` of its own: they name its fields, so a trait would only say them twice.
     pub fn new(below: C) -> Wishes<C>
-        ensures { (result.below ≡ below) × (wishes_of result ≡ []) }
+        ensures below { result.below ≡ below }
+        ensures none { wishes_of result ≡ [] }
     {
-        let none = HeldWish {
-            literals: Row::empty(),
-            amount: 0,
-        };
         Wishes {
             below,
-            wishes: [none; 8],
-            held: 0,
-            reach: 0,
+            wishes: ArrayVec::new(),
         }
     }
 
@@ -54,6 +42,8 @@ impl<C: Case> Wishes<C> {
     }
 
     // Adds a wish: a rule that may be broken at the price of the amount.
+    // `below` is an effect of the call and no fact of a value, so it is a clause here and in `hold`, and no invariant.
+    #[tactic(auto, using(crate::proofs::WishChecks::still_sound))]
     pub fn add(&mut self, wish: &[u8], amount: u32) -> Result<(), Refusal>
         ensures answers { result ≡ wish_check (wishes_of self.old) (C.Case.meaning self.old.below) wish.now }
         ensures adds { MatchResult result (λ _. wishes_of self.new ≡ wishes_of self.old ++ wish_for wish.now amount ∷ []) (λ _. self.new ≡ self.old) }
@@ -70,15 +60,7 @@ impl<C: Case> Wishes<C> {
         ensures answers { result ≡ unless_refused (read_faults (wishing (wishes_of self.now) (C.Case.meaning self.now.below)) (C.Case.meaning self.now.below) (length into.old)) (options_of (C.Case.meaning self.now.below)) }
         ensures writes { MatchResult result (λ n. into.new ≡ first_options n choice.now ++ drop n into.old) (λ _. into.new ≡ into.old) }
     {
-        if self.oversize() {
-            return Err(Refusal::Oversize);
-        }
-        let options = self.below.options();
-        if into.len() < options {
-            return Err(Refusal::ShortBuffer);
-        }
-        write_first(choice, options, into);
-        Ok(options)
+        read_front(self, self.below.options(), |v| is_set(choice, v), into)
     }
 
     fn check(&self, wish: &[u8]) -> Result<(), Refusal>
@@ -91,124 +73,92 @@ impl<C: Case> Wishes<C> {
             Err(Refusal::TooLong)
         } else if past_all(wish) > 2 * options {
             Err(Refusal::NoSuchLiteral)
-        } else if self.held >= MOST_WISHES {
+        } else if self.wishes.is_full() {
             Err(Refusal::Full)
-        } else if options + self.held >= MOST_OPTIONS {
+        } else if options + self.wishes.len() >= MOST_OPTIONS {
             Err(Refusal::TooLarge)
-        } else if self.below.rules() + self.held >= MOST_RULES {
+        } else if self.below.rules() + self.wishes.len() >= MOST_RULES {
             Err(Refusal::TooLarge)
         } else {
             Ok(())
         }
     }
-}
 
-impl<C> Wishes<C> {
+    // `short` and `small` are what `Row::of` asks, handed on: no plainer from a row that `check` makes, as a refusal makes none.
     fn hold(&mut self, wish: &[u8], amount: u32)
-        requires { (self.old.held < 8) × ((length wish.now ≤ 16) × (past_all wish.now ≤ 128)) }
+        requires room { array_vec_len self.old.wishes < 8 }
+        requires short { length wish.now ≤ 16 }
+        requires small { past_all wish.now ≤ 128 }
+        requires fits { is_oversize (wishing (wishes_of self.old ++ wish_for wish.now amount ∷ []) (C.Case.meaning self.old.below)) ≡ false }
         ensures adds { wishes_of self.new ≡ wishes_of self.old ++ wish_for wish.now amount ∷ [] }
         ensures below { self.new.below ≡ self.old.below }
     {
-        let at = self.held;
-        self.wishes[at] = HeldWish {
+        self.wishes.push(HeldWish {
             literals: Row::of(wish),
             amount,
-        };
-        self.held = at + 1;
-        self.reach = larger(self.reach, past_all(wish));
+        });
     }
 
-    fn has_room(&self, options: usize, rules: usize) -> bool
-        ensures { result ≡ wish_room (wishes_of self.now) options rules }
+    fn wish(&self, i: usize) -> Option<&HeldWish>
+        ensures { MatchOption result (length (wishes_of self.now) ≤ i) (λ wish. (i < length (wishes_of self.now)) × (wish_of wish.now ≡ slice_index_or (wishes_of self.now) i no_wish)) }
     {
-        wishes_fit(self.held, self.reach, options, rules)
-    }
-
-    fn wish(&self, i: usize) -> HeldWish
-        requires { i < self.now.held }
-        ensures { wish_of result ≡ slice_index_or (wishes_of self.now) i no_wish }
-    {
-        self.wishes[i]
+        self.wishes.get(i)
     }
 }
 
 impl<C: Case> Case for Wishes<C> {
     ghost meaning = { λ x. wishing (wishes_of x) (C.Case.meaning x.below) };
 
-    ghost limits = { λ x. limited_wishing (wishes_of x) (held_wishes x.wishes x.held) (C.Case.meaning x.below) (C.Case.limits x.below) };
+    ghost limits = { λ x. limited_wishing (wishes_of x) (held_wishes x.wishes) (C.Case.meaning x.below) (C.Case.limits x.below) };
 
     fn oversize(&self) -> bool {
-        self.below.oversize() || !self.has_room(self.below.options(), self.below.rules())
+        self.below.oversize()
     }
 
     fn options(&self) -> usize {
-        if self.oversize() {
-            0
-        } else {
-            self.below.options() + self.held
-        }
+        self.below.options() + self.wishes.len()
     }
 
     fn rules(&self) -> usize {
-        if self.oversize() {
-            0
-        } else {
-            self.below.rules() + self.held
-        }
+        self.below.rules() + self.wishes.len()
     }
 
     fn rule_len(&self, r: usize) -> usize {
-        if self.oversize() {
-            return 0;
-        }
         let rules = self.below.rules();
         if r < rules {
             return self.below.rule_len(r);
         }
-        let i = r - rules;
-        if i < self.held {
-            self.wish(i).literals.len() + 1
-        } else {
-            0
+        match self.wish(r - rules) {
+            Some(wish) => wish.literals.len() + 1,
+            None => 0,
         }
     }
 
     fn literal(&self, r: usize, j: usize) -> u8 {
-        if self.oversize() {
-            return 255;
-        }
         let rules = self.below.rules();
         if r < rules {
             return self.below.literal(r, j);
         }
         let i = r - rules;
-        if i >= self.held {
+        let Some(wish) = self.wish(i) else {
             return 255;
-        }
-        let literals = self.wish(i).literals;
-        if j == literals.len() {
+        };
+        if j == wish.literals.len() {
             (2 * (self.below.options() + i)) as u8
         } else {
-            literals.at(j)
+            wish.literals.at(j)
         }
     }
 
     fn amount(&self, l: u8) -> u32 {
-        if self.oversize() {
-            return 0;
-        }
         let first = 2 * self.below.options();
         let place = l as usize;
         if place < first {
             return self.below.amount(l);
         }
-        let i = (place - first) / 2;
-        if i >= self.held {
-            0
-        } else if l % 2 == 0 {
-            self.wish(i).amount
-        } else {
-            0
-        }
+        let Some(wish) = self.wish((place - first) / 2) else {
+            return 0;
+        };
+        if l % 2 == 0 { wish.amount } else { 0 }
     }
 }

@@ -3,5 +3,4 @@
 
 mod held;
 pub mod layer;
-mod reading;
 pub mod state;

@@ -1,20 +1,24 @@
 // The wish layer: wishes that a choice may break at a price.
-// Every value of the type keeps the limits of a case, whatever stands below: it remembers how far the literals of its
-// wishes reach, and over a case that lacks them or leaves no room it is oversize. Adding wishes never makes it so.
-ghost use Rattle.std.specs.Prelude.{◌≡◌, ◌≤◌, length};
-ghost use Rattle.wishes.specs.Wishes.{wish_reach};
-ghost use Rattle.wishes.specs.WishViews.{first_wishes};
+// Every value of the type keeps the limits of a case, whatever stands below: wishes are held only over a case that has
+// their literals and leaves room for them, and a layer that holds none tells what stands below.
+ghost use Rattle.std.specs.Prelude.{◌≤◌};
+ghost use Rattle.arrayvec.specs.ArrayVec.{array_vec_len};
+ghost use Rattle.layers.specs.Layered.{SoundIfHeld};
+ghost use Rattle.wishes.specs.Wishes.{wishing};
+ghost use Rattle.wishes.specs.WishViews.{wishes_in};
 
 use crate::held::HeldWish;
+use arrayvec::ArrayVec;
+use cases::case::Case;
+
+// How many wishes a layer can hold.
+const MOST_WISHES: usize = 8;
 
 #[derive(Drop)]
-pub struct Wishes<C> {
+pub struct Wishes<C: Case> {
     pub(crate) below: C,
-    pub(crate) wishes: [HeldWish; 8],
-    pub(crate) held: usize,
-    // one past the largest literal of a wish
-    pub(crate) reach: usize,
-    ghost full: { length wishes ≡ 8 },
-    ghost few: { held ≤ 8 },
-    ghost reached: { reach ≡ wish_reach (first_wishes wishes held) },
+    pub(crate) wishes: ArrayVec<HeldWish, MOST_WISHES>,
+    // a clause sees the wishes and not how many fit, so this says it
+    ghost few: { array_vec_len wishes ≤ 8 },
+    ghost fits: { SoundIfHeld wishing (wishes_in wishes) (C.Case.meaning below) },
 }

@@ -1,5 +1,5 @@
 // How the index takes in one field after another, and what it refuses of their content.
-ghost use Rattle.std.specs.Prelude.{◌≡◌, ℕ, ◌<◌, ◌≤◌, List};
+ghost use Rattle.std.specs.Prelude.{◌≡◌, ℕ, ◌<◌, List};
 ghost use Rattle.cases.specs.Meanings.{Sound};
 ghost use Rattle.casefile.specs.Files.{below, blank};
 ghost use Rattle.casefile.specs.Fields.{item, options, amount, rule};
@@ -14,19 +14,15 @@ use cases::limits::{MOST_OPTIONS, MOST_RULES};
 fn all_below(literals: &[u8], limit: usize) -> bool
     ensures { result ≡ below limit literals.now }
 {
-    for l in literals {
-        if *l as usize >= limit {
-            return false;
-        }
-    }
-    true
+    literals.iter().all(|l| (*l as usize) < limit)
 }
 
 impl Index {
     // The index before any field.
     pub(crate) fn new() -> Index
         ensures blank { (xs : List ℕ) → Follows xs result blank }
-        ensures small { (result.options ≤ 56) × (result.rules ≤ 512) × (result.floor ≡ 0) × (result.rules ≡ 0) }
+        ensures floor { result.floor ≡ 0 }
+        ensures rules { result.rules ≡ 0 }
     {
         Index {
             options: 0,
@@ -37,6 +33,7 @@ impl Index {
         }
     }
 
+    // `Follows` stays a clause, here and below, and no invariant of Index: it speaks of the bytes read so far, which no index holds.
     fn note_options(&mut self, n: u16) -> Result<(), Fault>
         ensures noted { (xs : List ℕ) (s : Sound) → Follows xs self.old s → Noted xs (judged s (options n)) result self.new }
     {
@@ -48,8 +45,8 @@ impl Index {
         Ok(())
     }
 
+    #[tactic(auto, using(crate::proofs::Notes::note_amount))]
     fn note_amount(&mut self, literal: u8, sum: u32) -> Result<(), Fault>
-        requires { self.old.options ≤ 56 }
         ensures noted { (xs : List ℕ) (s : Sound) → Follows xs self.old s → Noted xs (judged s (amount literal sum)) result self.new }
     {
         let l = literal as usize;
@@ -67,8 +64,9 @@ impl Index {
         Ok(())
     }
 
+    #[tactic(auto, using(crate::proofs::Notes::note_rule))]
     fn note_rule(&mut self, part: &[u8], place: usize) -> Result<(), Fault>
-        requires { (self.old.options ≤ 56) × (place < 65536) }
+        requires { place < 65536 }
         ensures noted { (xs : List ℕ) (s : Sound) → Follows xs self.old s → Placed xs place part.now → Noted xs (judged s (rule part.now)) result self.new }
     {
         if self.rules >= MOST_RULES {
@@ -84,7 +82,7 @@ impl Index {
 
     // Takes in a field that stands at the place, or says what is wrong with its content.
     pub(crate) fn note(&mut self, field: &Field<'_>, place: usize) -> Result<(), Fault>
-        requires { (self.old.options ≤ 56) × (place < 65536) }
+        requires { place < 65536 }
         ensures noted { (xs : List ℕ) (s : Sound) → Follows xs self.old s → Stands xs place (item field.now) → Noted xs (judged s (item field.now)) result self.new }
     {
         match *field {

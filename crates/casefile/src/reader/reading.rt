@@ -1,5 +1,5 @@
 // How the reader goes from field to field.
-ghost use Rattle.std.specs.Prelude.{◌≡◌, ◌+◌, ◌≤◌, length};
+ghost use Rattle.std.specs.Prelude.{◌≡◌, ◌+◌, ◌≤◌, length, take, drop};
 ghost use Rattle.casefile.specs.declared.field.Phase.TheVariants.{Start};
 ghost use Rattle.casefile.specs.Format.{two, four, fits, past_end};
 ghost use Rattle.casefile.specs.Fields.{Advanced, given, next, HandsOn};
@@ -8,20 +8,29 @@ use super::Reader;
 use crate::fault::{Fault, FileRefusal};
 use crate::field::{Field, Phase};
 
+// The N bytes from the place on.
+fn part<const N: usize>(bytes: &[u8], at: usize) -> [u8; N]
+    requires { at + N ≤ length bytes.now }
+    ensures { result ≡ take N (drop at bytes.now) }
+{
+    bytes[at..at + N].try_into().unwrap()
+}
+
 fn two_at(bytes: &[u8], at: usize) -> u16
     requires { at + 2 ≤ length bytes.now }
     ensures { result ≡ two bytes.now at }
 {
-    bytes[at] as u16 * 256 + bytes[at + 1] as u16
+    u16::from_be_bytes(part(bytes, at))
 }
 
 fn four_at(bytes: &[u8], at: usize) -> u32
     requires { at + 4 ≤ length bytes.now }
     ensures { result ≡ four bytes.now at }
 {
-    two_at(bytes, at) as u32 * 65536 + two_at(bytes, at + 2) as u32
+    u32::from_be_bytes(part(bytes, at))
 }
 
+// The tags stay bytes, here and below: an enum would be made by these four numbers, and the phase decides which fault another byte is.
 fn length_fits(tag: u8, len: u16) -> bool
     ensures { result ≡ fits tag len }
 {
@@ -33,20 +42,11 @@ fn length_fits(tag: u8, len: u16) -> bool
     }
 }
 
-fn refusal(fault: Fault, place: usize) -> FileRefusal
-    ensures { (result.fault ≡ fault) × (result.place ≡ place) }
-{
-    FileRefusal { fault, place }
-}
-
 impl Phase {
     fn past_end(self) -> bool
         ensures { result ≡ past_end self }
     {
-        match self {
-            Phase::PastEnd => true,
-            _ => false,
-        }
+        matches!(self, Phase::PastEnd)
     }
 
     // The phase and the next tag decide together.
@@ -67,7 +67,9 @@ impl Phase {
 
 impl<'a> Reader<'a> {
     pub fn new(bytes: &'a [u8]) -> Reader<'a>
-        ensures { (result.bytes.now ≡ bytes.now) × (result.at ≡ 0) × (result.phase ≡ Start) }
+        ensures bytes { result.bytes.now ≡ bytes.now }
+        ensures place { result.at ≡ 0 }
+        ensures phase { result.phase ≡ Start }
     {
         Reader {
             bytes,
@@ -83,6 +85,7 @@ impl<'a> Reader<'a> {
         self.at
     }
 
+    // What `next` does, apart from it: so the further clause of `next` is proved once, and not at each return here.
     fn step(&mut self) -> Result<Option<Field<'a>>, FileRefusal>
         ensures bytes { self.new.bytes.now ≡ self.old.bytes.now }
         ensures gave { given result self.new.phase self.new.at ≡ next self.old.phase self.old.bytes.now self.old.at }
@@ -91,26 +94,24 @@ impl<'a> Reader<'a> {
         let bytes = self.bytes;
         if self.phase.past_end() {
             return if place < bytes.len() {
-                Err(refusal(Fault::Trailing, place))
+                Err(Fault::Trailing.at(place))
             } else {
                 Ok(None)
             };
         }
         if bytes.len() - place < 3 {
-            return Err(refusal(Fault::Truncated, place));
+            return Err(Fault::Truncated.at(place));
         }
         let tag = bytes[place];
         let len = two_at(bytes, place + 1);
         let mut phase = self.phase;
-        if let Err(fault) = phase.advance(tag) {
-            return Err(refusal(fault, place));
-        }
+        phase.advance(tag).map_err(|fault| fault.at(place))?;
         if !length_fits(tag, len) {
-            return Err(refusal(Fault::WrongLength, place));
+            return Err(Fault::WrongLength.at(place));
         }
         let from = place + 3;
         if bytes.len() - from < len as usize {
-            return Err(refusal(Fault::Truncated, place));
+            return Err(Fault::Truncated.at(place));
         }
         self.phase = phase;
         self.at = from + len as usize;

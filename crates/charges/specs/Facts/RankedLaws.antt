@@ -13,7 +13,7 @@ as_one a = a.lost * 2 ^ 32 + a.pence
 
 not_above_one : (a b : Ranked) → ranked_not_above a b ≡ true → as_one a ≤ as_one b
 not_above_one a b h =
-    ⊎_elim (λ q. let l = ltb-true a.lost b.lost q in omega (arith, a.fits.1))
+    ⊎_elim (λ q. let l = ltb-true a.lost b.lost q in omega (arith, a.pence_fits))
     (λ q.
     let w = and_parts (a.lost == b.lost) (nat_le a.pence b.pence) q in
     let l = eqb-true a.lost b.lost w.0 in
@@ -25,7 +25,7 @@ one_not_above : (a b : Ranked) → as_one a ≤ as_one b → ranked_not_above a 
 one_not_above a b h =
     ⊎_elim (λ (l : a.lost < b.lost). or_left _ _ (lt-ltb a.lost b.lost l))
     (λ (l : b.lost ≤ a.lost).
-    let e : a.lost ≡ b.lost = omega (arith, b.fits.1) in
+    let e : a.lost ≡ b.lost = omega (arith, b.pence_fits) in
     or_right _ _ (and_from _ _ (eq-eqb a.lost b.lost e) (le-leb a.pence b.pence (omega arith))))
     (cases_lt a.lost b.lost)
 

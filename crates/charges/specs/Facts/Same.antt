@@ -14,5 +14,5 @@ sum_same a b e = same_made (2 ^ 64) (λ n h. record { value = n; fits = h }) a.v
 
 pub ranked_same : (a b : Ranked) → a.lost ≡ b.lost → a.pence ≡ b.pence → a ≡ b
 ranked_same a b e d =
-    same_made (2 ^ 32) (λ n h. record { lost = n; pence = a.pence; fits = (h, a.fits.1) }) a.lost b.lost a.fits.0 b.fits.0 e
-    ∙ same_made (2 ^ 32) (λ n h. record { lost = b.lost; pence = n; fits = (b.fits.0, h) }) a.pence b.pence a.fits.1 b.fits.1 d
+    same_made (2 ^ 32) (λ n h. record { lost = n; pence = a.pence; lost_fits = h; pence_fits = a.pence_fits }) a.lost b.lost a.lost_fits b.lost_fits e
+    ∙ same_made (2 ^ 32) (λ n h. record { lost = b.lost; pence = n; lost_fits = b.lost_fits; pence_fits = h }) a.pence b.pence a.pence_fits b.pence_fits d

@@ -12,6 +12,7 @@ const PENCE_LIMIT: u32 = 1 << 24;
 
 impl Ranked {
     // The charge of two numbers.
+    #[tactic(auto, using(crate::specs::Facts::Same::ranked_same), unfolding(crate::specs::RankedKind::ranked_of))]
     fn of(lost: u32, pence: u32) -> Ranked
         ensures { result ≡ ranked_of lost pence }
     {
@@ -60,7 +61,7 @@ impl Charge for Ranked {
     }
 
     fn not_above(self, other: Ranked) -> bool {
-        self.lost < other.lost || (self.lost == other.lost && self.pence <= other.pence)
+        self <= other
     }
 }
 
@@ -68,8 +69,6 @@ impl fmt::Display for Ranked {
     ghost output = { λ x. Some (decimal x.lost ++ (codes " " ++ decimal x.pence)) };
 
     fn fmt<W: fmt::Write>(&self, f: &mut fmt::Formatter<W>) -> fmt::Result {
-        let lost = self.lost;
-        let pence = self.pence;
-        write!(f, "{lost} {pence}")
+        write!(f, "{} {}", self.lost, self.pence)
     }
 }

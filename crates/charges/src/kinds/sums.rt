@@ -9,6 +9,7 @@ use std::fmt;
 
 impl Sum {
     // The charge of a number.
+    #[tactic(auto, using(crate::specs::Facts::Same::sum_same), unfolding(crate::specs::SumKind::sum_of))]
     fn of(value: u64) -> Sum
         ensures { result ≡ sum_of value }
     {
@@ -47,7 +48,7 @@ impl Charge for Sum {
     }
 
     fn not_above(self, other: Sum) -> bool {
-        self.value <= other.value
+        self <= other
     }
 }
 
@@ -55,7 +56,6 @@ impl fmt::Display for Sum {
     ghost output = { λ x. Some (decimal x.value) };
 
     fn fmt<W: fmt::Write>(&self, f: &mut fmt::Formatter<W>) -> fmt::Result {
-        let value = self.value;
-        write!(f, "{value}")
+        write!(f, "{}", self.value)
     }
 }

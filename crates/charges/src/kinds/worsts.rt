@@ -42,7 +42,7 @@ impl Charge for Worst {
     }
 
     fn not_above(self, other: Worst) -> bool {
-        self.value <= other.value
+        self <= other
     }
 }
 
@@ -50,7 +50,6 @@ impl fmt::Display for Worst {
     ghost output = { λ x. Some (decimal x.value) };
 
     fn fmt<W: fmt::Write>(&self, f: &mut fmt::Formatter<W>) -> fmt::Result {
-        let value = self.value;
-        write!(f, "{value}")
+        write!(f, "{}", self.value)
     }
 }

@@ -1,28 +1,28 @@
 -- A group layer stands for its groups; the facts below the definition are proved here.
-use Rattle.std.specs.Prelude.{◌≡◌, ℕ, ◌+◌, ◌<◌, max, List, [], ◌∷◌, ◌++◌, map, length, take, slice_index_or, slice_set}
+use Rattle.std.specs.Prelude.{◌≡◌, ℕ, ◌+◌, ◌<◌, max, List, [], ◌∷◌, ◌++◌, map, length, slice_index_or}
 use Rattle.std.proofs.Common.{sym, ap, ◌∙◌, arith, length-append}
-use Rattle.std.proofs.lemmas.List.{get_or-map, get_or-take, length-take-le, take_more_set, map_push, length-map}
+use Rattle.std.proofs.lemmas.List.{get_or-map, map_push, length-map}
+use Rattle.cases.specs.declared.case.Case.{Ghosts}
 use Rattle.groups.specs.declared.state.Groups.{Groups}
 use Rattle.layers.specs.declared.row.Row.{Row}
 use Rattle.layers.specs.Rows.{past_all}
 use Rattle.layers.specs.RowViews.{items_of}
 use Rattle.groups.specs.Groups.{pair_rules, group_rules, group_reach}
-use Rattle.groups.specs.GroupViews.{first_groups}
+use Rattle.groups.specs.GroupViews.{lists_of}
+use Rattle.arrayvec.specs.ArrayVec.{ArrayVec, array_vec_len}
 
-abbrev pub groups_of : {C : Type 0} → Groups C → List (List ℕ)
-groups_of x = first_groups x.groups x.held
+abbrev pub groups_of : {C : Type 0} {K : Ghosts C} → Groups C K → List (List ℕ)
+groups_of x = lists_of x.groups
 
-pub length-groups : {C : Type 0} (x : Groups C) → length (groups_of x) ≡ x.held
-length-groups x = length-map (take x.held x.groups) items_of ∙ length-take-le x.held x.groups (omega (arith, x.few, x.full))
+pub length-groups : {C : Type 0} {K : Ghosts C} (x : Groups C K) → length (groups_of x) ≡ array_vec_len x.groups
+length-groups x = length-map x.groups.items items_of
 
-pub group_read : {C : Type 0} (x : Groups C) (i : ℕ) (d : Row) → i < x.held → items_of (slice_index_or x.groups i d) ≡ slice_index_or (groups_of x) i []
-group_read x i d h =
-    let k : i < length (take x.held x.groups) = rw (length-take-le x.held x.groups (omega (arith, x.few, x.full))) h in
-    ap items_of (sym (get_or-take x.held x.groups i d h)) ∙ sym (get_or-map items_of (take x.held x.groups) i d [] k)
+pub group_read : {C : Type 0} {K : Ghosts C} (x : Groups C K) (i : ℕ) (d : Row) → i < array_vec_len x.groups → items_of (slice_index_or x.groups.items i d) ≡ slice_index_or (groups_of x) i []
+group_read x i d h = sym (get_or-map items_of x.groups.items i d [] h)
 
 -- One group more.
-pub first_groups_more : (gs : List Row) (n : ℕ) (g : Row) (xs : List ℕ) → n < length gs → items_of g ≡ xs → first_groups (slice_set gs n g) (n + 1) ≡ first_groups gs n ++ xs ∷ []
-first_groups_more gs n g xs h e = ap (map items_of) (take_more_set gs n g h) ∙ map_push items_of (take n gs) g ∙ ap (λ x. first_groups gs n ++ x ∷ []) e
+pub lists_of_more : (old new : ArrayVec Row) (g : Row) (xs : List ℕ) → new.items ≡ old.items ++ g ∷ [] → items_of g ≡ xs → lists_of new ≡ lists_of old ++ xs ∷ []
+lists_of_more old new g xs h e = ap (map items_of) h ∙ map_push items_of old.items g ∙ ap (λ x. lists_of old ++ x ∷ []) e
 
 pub group_reach_more : (gs : List (List ℕ)) (g : List ℕ) → group_reach (gs ++ g ∷ []) ≡ max (group_reach gs) (past_all g)
 group_reach_more [] g = omega arith

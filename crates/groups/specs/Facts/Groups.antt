@@ -1,14 +1,15 @@
 -- The group layer keeps the limits, and what it tells; all proved here.
 use Rattle.std.specs.Prelude.{◌≡◌, ℕ, zero, suc, ◌+◌, ◌-◌, ◌*◌, ◌<◌, ◌≤◌, true, false, List, [], ◌∷◌, ◌++◌, map, length, nat_le, slice_index_or, refl}
-use Rattle.std.proofs.Common.{sym, subst, ⊎_elim, suc-mul, mul-suc, mul-le-mul, arith, length-append}
+use Rattle.std.proofs.Common.{sym, ap, subst, ⊎_elim, suc-mul, mul-suc, mul-le-mul, arith, length-append}
 use Rattle.std.proofs.lemmas.List.{length-map}
 use Rattle.std.proofs.Math.ListN.{get_or-eq_default}
 use Rattle.std.specs.List.{AllByRecursion}
 use Rattle.std.proofs.ByRecursion.{All-append, All-map, All-weaker, All-get_or}
-use Rattle.std.proofs.lemmas.Bool.{leb-true, and_parts, cases_lt}
-use Rattle.cases.specs.Meanings.{Meaning, Sound, sound, is_oversize, options_of, rules_of, amounts_of}
+use Rattle.std.proofs.lemmas.Bool.{leb-true, le-leb, and_parts, and_from, cases_lt}
+use Rattle.cases.specs.Meanings.{Meaning, Sound, oversize, sound, is_oversize, options_of, rules_of, amounts_of}
 use Rattle.cases.specs.Limits.{Limited}
-use Rattle.layers.specs.Facts.Layered.{where_sound, limited_layered, each_rule, rules_counted, rule_kept, rule_added}
+use Rattle.layers.specs.Facts.Layered.{where_sound, where_held, limited_layered, each_rule, rules_counted, rule_kept, rule_added}
+use Rattle.layers.specs.Layered.{SoundIfHeld}
 use Rattle.layers.specs.Apart.{not_together}
 use Rattle.layers.specs.Rows.{past_all}
 use Rattle.layers.specs.Facts.Rows.{all_below_past}
@@ -96,3 +97,31 @@ module _ (gs : List (List ℕ)) (m : Meaning) (fine : is_oversize (grouped gs m)
 
   pub group_rule_added : (r : ℕ) → length (rules_of m) ≤ r → slice_index_or (rules_of (grouped gs m)) r [] ≡ slice_index_or (group_rules gs) (r - length (rules_of m)) []
   group_rule_added r h = rule_added m (grouped gs m) (group_rules gs) group_rules_told r h
+
+-- Of a layer that is not oversize where it holds groups:
+module _ (gs : List (List ℕ)) (m : Meaning) (limits : Limited m) (held : SoundIfHeld grouped gs m) where
+  told : (P : Meaning → Meaning → Type 0) → (gs ≡ [] → P oversize oversize) → ((s : Sound) → P (sound s) (sound (group_sound gs s))) → P m (grouped gs m)
+  told =
+      where_held group_room group_sound gs m
+      (and_from _ _ (le-leb (length (rules_of m) + 0) 512 (omega (arith, limits.few_rules))) (le-leb 0 (options_of m) (omega arith))) held
+
+  pub group_oversize : is_oversize (grouped gs m) ≡ is_oversize m
+  group_oversize = told (λ m t. is_oversize t ≡ is_oversize m) (λ _. refl) (λ _. refl)
+
+  pub group_options_held : options_of (grouped gs m) ≡ options_of m
+  group_options_held = told (λ m t. options_of t ≡ options_of m) (λ _. refl) (λ _. refl)
+
+  pub group_amounts_held : amounts_of (grouped gs m) ≡ amounts_of m
+  group_amounts_held = told (λ m t. amounts_of t ≡ amounts_of m) (λ _. refl) (λ _. refl)
+
+  pub group_rules_told_held : rules_of (grouped gs m) ≡ rules_of m ++ group_rules gs
+  group_rules_told_held = told (λ m t. rules_of t ≡ rules_of m ++ group_rules gs) (λ e. sym (ap group_rules e)) (λ _. refl)
+
+  pub group_rules_counted_held : length (rules_of (grouped gs m)) ≡ length (rules_of m) + length (group_rules gs)
+  group_rules_counted_held = rules_counted m (grouped gs m) (group_rules gs) group_rules_told_held
+
+  pub group_rule_kept_held : (r : ℕ) → r < length (rules_of m) → slice_index_or (rules_of (grouped gs m)) r [] ≡ slice_index_or (rules_of m) r []
+  group_rule_kept_held r h = rule_kept m (grouped gs m) (group_rules gs) group_rules_told_held r h
+
+  pub group_rule_added_held : (r : ℕ) → length (rules_of m) ≤ r → slice_index_or (rules_of (grouped gs m)) r [] ≡ slice_index_or (group_rules gs) (r - length (rules_of m)) []
+  group_rule_added_held r h = rule_added m (grouped gs m) (group_rules gs) group_rules_told_held r h

@@ -1,12 +1,12 @@
 -- Facts on any layer, all proved here; the values of ghost members lean on them, so they stand in specs/.
-use Rattle.std.specs.Prelude.{◌≡◌, ℕ, ◌+◌, ◌-◌, ◌<◌, ◌≤◌, Bool, true, false, List, [], ◌++◌, length, get_or, slice_index_or, refl}
-use Rattle.std.proofs.Common.{sym, ap, ap₂, subst, ◌∙◌, ⊎_elim, length-append}
+use Rattle.std.specs.Prelude.{◌≡◌, ℕ, ◌+◌, ◌-◌, ◌<◌, ◌≤◌, Bool, true, false, List, [], ◌∷◌, ◌++◌, length, get_or, slice_index_or, refl}
+use Rattle.std.proofs.Common.{sym, ap, ap₂, subst, ◌∙◌, ⊎_elim, arith, length-append}
 use Rattle.std.proofs.lemmas.Bool.{cond-true, cond-false, cond_both, cases_lt, both_ways}
 use Rattle.std.proofs.lemmas.List.{get_or_append_left, get_or-append_right}
 use Rattle.cases.specs.Meanings.{Meaning, Sound, oversize, sound, is_oversize, options_of, rules_of}
 use Rattle.cases.specs.Limits.{Limited}
 use Rattle.cases.specs.Facts.Limits.{limited_oversize}
-use Rattle.layers.specs.Layered.{Room, layered, room_over}
+use Rattle.layers.specs.Layered.{Room, layered, room_over, SoundIfHeld}
 
 module _ (room : Room) (over : Sound → Sound) where
   pub no_room : (m : Meaning) → room_over room m ≡ false → layered room over m ≡ oversize
@@ -30,6 +30,13 @@ module _ (room : Room) (over : Sound → Sound) where
   pub limited_layered : ((s : Sound) → room_over room (sound s) ≡ true → Limited (sound s) → Limited (sound (over s))) → (m : Meaning) → Limited m → Limited (layered room over m)
   limited_layered f oversize h = h
   limited_layered f (sound s) h = cond_both (room_over room (sound s)) (sound (over s)) oversize Limited (λ e. f s e h) (λ _. limited_oversize)
+
+-- A layer that is not oversize where it holds things, and has room where it holds none: what holds of what it makes
+-- beside what that is made of, and where it holds none of oversize beside oversize, holds over any case.
+pub where_held : {X : Type 0} (room : List X → Room) (over : List X → Sound → Sound) (xs : List X) (m : Meaning) → room_over (room []) m ≡ true → SoundIfHeld (λ ys. layered (room ys) (over ys)) xs m
+    → (P : Meaning → Meaning → Type 0) → (xs ≡ [] → P oversize oversize) → ((s : Sound) → P (sound s) (sound (over xs s))) → P m (layered (room xs) (over xs) m)
+where_held room over [] m e h P none some = with_room (room []) (over []) P (none refl) (λ s _. some s) m e
+where_held room over (x ∷ xs) m e h P none some = where_sound (room (x ∷ xs)) (over (x ∷ xs)) P (λ s _. some s) m (h (omega arith))
 
 -- What a test of the room answers, of so many options and rules as are told.
 pub room_told : (room : Room) (m : Meaning) {n k : ℕ} {b : Bool} → n ≡ options_of m → k ≡ length (rules_of m) → b ≡ room n k → room_over room m ≡ b

@@ -4,41 +4,68 @@ ghost use Rattle.layers.specs.Rows.{past_all};
 ghost use Rattle.layers.specs.RowViews.{items_of};
 
 use super::Row;
+use arrayvec::ArrayVec;
+use std::alloc::AllocError;
+
+// Written out, as no derive stands over ghost fields.
+impl Default for Row {
+    ghost is_default = { λ row. items_of row ≡ [] };
+
+    fn default() -> Row {
+        Row::empty()
+    }
+}
+
+// Written out as well, for the same reason. It never fails.
+impl Clone for Row {
+    ghost is_clone = { λ row copy. items_of copy ≡ items_of row };
+
+    ghost is_infallible = { λ _. Unit };
+
+    fn clone(&self) -> Result<Row, AllocError> {
+        Ok(Row::of(self.items()))
+    }
+}
 
 impl Row {
     pub fn empty() -> Row
         ensures { items_of result ≡ [] }
     {
         Row {
-            items: [0; 16],
-            len: 0,
+            items: ArrayVec::new(),
         }
     }
 
+    // The two facts stay clauses: the list is no row yet, and what `items` lends is none any more; the row has them as ghost fields.
     pub fn of(list: &[u8]) -> Row
-        requires { (length list.now ≤ 16) × (past_all list.now ≤ 128) }
+        requires short { length list.now ≤ 16 }
+        requires small { past_all list.now ≤ 128 }
         ensures { items_of result ≡ list.now }
     {
-        let mut items = [0u8; 16];
-        for (i, x) in list.iter().enumerate() {
-            items[i] = *x;
-        }
-        Row {
-            items,
-            len: list.len(),
-        }
+        let mut items = ArrayVec::new();
+        items.try_extend_from_slice(list).unwrap();
+        Row { items }
     }
 
     pub fn len(&self) -> usize
         ensures { result ≡ length (items_of self.now) }
     {
-        self.len
+        self.items.len()
+    }
+
+    pub fn items(&self) -> &[u8]
+        ensures items { result.now ≡ items_of self.now }
+        ensures short { length result.now ≤ 16 }
+        ensures small { past_all result.now ≤ 128 }
+    {
+        &self.items
     }
 
     // What stands at place j; 255 where nothing does.
+    // 255 and no Option: it is handed on as `Case::literal` answers it.
     pub fn at(&self, j: usize) -> u8
         ensures { result ≡ slice_index_or (items_of self.now) j 255 }
     {
-        if j < self.len { self.items[j] } else { 255 }
+        self.items.get(j).copied().unwrap_or(255)
     }
 }

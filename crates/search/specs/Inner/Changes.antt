@@ -7,7 +7,7 @@ use Rattle.steps.specs.Shapes.{Shape}
 
 abbrev pub restarting : Shape → Shape
 restarting s =
-    record { conditions = s.conditions; trail = []; conflict = core.none; choice = s.choice; learned = s.learned; conflicts = 0; steps = 0 }
+    record { trail = []; conflict = core.none; choice = s.choice; learned = s.learned; conflicts = 0; steps = 0 }
 
 -- If the best breaks a rule, the best and all learned rules go.
 abbrev pub forgetting : {K : Kind} → Bool → State K → State K

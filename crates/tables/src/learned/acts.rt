@@ -24,6 +24,7 @@ impl Learned {
     }
 
     // Row j notes whether it is a reason. Where there is no such row nothing changes.
+    // One mark is written through &mut self, by its index: a rule of the project.
     pub fn mark(&mut self, j: usize, reason: bool)
         ensures { rows_of self.new ≡ marked j reason (rows_of self.old) }
     {
@@ -41,16 +42,16 @@ impl Learned {
     }
 
     // The set becomes the newest row. Refused where the table is full: then nothing changes.
+    // The answer stays a bool, whether the row was learned: a full table is the one cause, and the only caller drops the answer.
     pub fn learn(&mut self, literals: LiteralSet, reason: bool) -> bool
         ensures answers { result ≡ nat_lt (length (rows_of self.old)) 64 }
         ensures leaves { rows_of self.new ≡ (if result then rows_of self.old ++ noted literals reason ∷ [] else rows_of self.old) }
     {
-        let at = self.len;
-        if at >= MOST_ROWS {
+        if self.len >= MOST_ROWS {
             return false;
         }
-        self.rows[at] = Row { literals, reason };
-        self.len = at + 1;
+        self.rows[self.len] = Row { literals, reason };
+        self.len += 1;
         true
     }
 
@@ -61,9 +62,8 @@ impl Learned {
         if p >= self.len {
             return;
         }
-        let end = self.len;
-        move_down(&mut self.rows, p, end);
-        self.len = end - 1;
+        self.rows.copy_within(p + 1..self.len, p);
+        self.len -= 1;
     }
 
     pub fn clear(&mut self)
@@ -74,21 +74,11 @@ impl Learned {
 }
 
 fn note_rows(rows: &mut [Row], len: usize, reasons: &[bool; 64])
-    requires { (len ≤ length rows.old) × (len ≤ 64) }
+    requires in_rows { len ≤ length rows.old }
+    requires few { len ≤ 64 }
     ensures { (k : ℕ) → k < len → slice_index_or rows.new k no_row ≡ record { literals = (get_or rows.old k no_row).literals; reason = slice_index_or reasons.now k false } }
 {
-    for j in 0..len {
-        rows[j].reason = reasons[j];
-    }
-}
-
-// The rows from p + 1 up to the end move down by one.
-fn move_down(rows: &mut [Row], p: usize, end: usize)
-    requires { (p < end) × (end ≤ length rows.old) }
-    ensures moved { (q : ℕ) → p ≤ q → q + 1 < end → slice_index_or rows.new q no_row ≡ slice_index_or rows.old (q + 1) no_row }
-    ensures stays { (q : ℕ) → q < p → slice_index_or rows.new q no_row ≡ slice_index_or rows.old q no_row }
-{
-    for j in p..end - 1 {
-        rows[j] = rows[j + 1];
+    for (j, row) in rows[..len].iter_mut().enumerate() {
+        row.reason = reasons[j];
     }
 }

@@ -11,7 +11,8 @@ use literals::LiteralSet;
 
 impl Learned {
     pub fn len(&self) -> usize
-        ensures { (result ≡ length (rows_of self.now)) × (result ≤ 64) }
+        ensures answers { result ≡ length (rows_of self.now) }
+        ensures within { result ≤ 64 }
     {
         self.len
     }
@@ -20,28 +21,25 @@ impl Learned {
     pub fn row(&self, j: usize) -> LiteralSet
         ensures { (x : ℕ) → member result x ≡ (slice_index_or (rows_of self.now) j nothing_noted).literals x }
     {
-        if j < self.len {
-            self.rows[j].literals
-        } else {
-            LiteralSet::empty()
-        }
+        self.rows[..self.len]
+            .get(j)
+            .map_or(LiteralSet::empty(), |row| row.literals)
     }
 
     // The oldest row that is no reason, or how many there are if all are.
+    // A number and no Option, which is no plainer: `first` of the calculus names the length too, and the caller would take it back.
     fn first_free(&self) -> usize
         ensures { result ≡ first (length (rows_of self.now)) (λ j. not (slice_index_or (rows_of self.now) j nothing_noted).reason) }
     {
-        let len = self.len;
-        for j in 0..len {
-            if !self.rows[j].reason {
-                return j;
-            }
-        }
-        len
+        self.rows[..self.len]
+            .iter()
+            .position(|row| !row.reason)
+            .unwrap_or(self.len)
     }
 
     // The row that goes before one more is learned: of a full table the oldest that is no reason, and else the place
     // past the last, where no row is.
+    // A number and no Option, which is no plainer: the calculus names that place too, and to remove and rename there changes nothing.
     pub fn leaving(&self) -> usize
         ensures { result ≡ (if nat_le 64 (length (rows_of self.now)) then first (length (rows_of self.now)) (λ j. not (slice_index_or (rows_of self.now) j nothing_noted).reason) else length (rows_of self.now)) }
     {

@@ -1,5 +1,5 @@
 // What a reason is asked.
-ghost use Rattle.std.specs.Prelude.{◌≡◌, ◌-◌, ◌<◌, if◌then◌else◌, nat_lt};
+ghost use Rattle.std.specs.Prelude.{◌≡◌, ◌<◌};
 ghost use Rattle.calculus.specs.Trails.{opened};
 ghost use Rattle.calculus.specs.Learned.{is_place, moved};
 ghost use Rattle.trails.specs.Entries.{reason_of};
@@ -19,28 +19,21 @@ impl Reason {
     }
 
     // Whether the rule at this place is the reason.
+    #[tactic(auto, unfolding(calculus::specs::Learned::is_place))]
     pub(crate) fn is_place(self, place: usize) -> bool
         ensures { result ≡ is_place (reason_of self) place }
     {
-        match self {
-            Reason::Decided => false,
-            Reason::Forced(p) => p as usize == place,
-        }
+        matches!(self, Reason::Forced(p) if usize::from(p) == place)
     }
 
     // The reason once the rule at the place `gone` has left: the later ones have moved down by one.
+    #[tactic(auto, unfolding(calculus::specs::Learned::moved))]
     pub(crate) fn renamed(self, gone: usize) -> Reason
         ensures { reason_of result ≡ moved gone (reason_of self) }
     {
         match self {
-            Reason::Decided => Reason::Decided,
-            Reason::Forced(i) => Reason::Forced(lowered(gone, i)),
+            Reason::Forced(i) if usize::from(i) > gone => Reason::Forced(i - 1),
+            same => same,
         }
     }
-}
-
-fn lowered(gone: usize, i: u16) -> u16
-    ensures { result ≡ (if nat_lt gone i then i - 1 else i) }
-{
-    if gone < i as usize { i - 1 } else { i }
 }

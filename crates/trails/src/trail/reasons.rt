@@ -9,13 +9,14 @@ use crate::entry::Reason;
 
 impl Trail {
     // For each of 64 places from a base on, whether the rule there is the reason of a literal.
+    // An array and no ArrayVec: there is an answer for each place, and the table of rows takes 64 of them.
     pub fn reasons(&self, base: usize) -> [bool; 64]
         ensures full { length result ≡ 64 }
         ensures tells { (j : ℕ) → j < 64 → slice_index_or result j false ≡ is_reason (listed self.now) (base + j) }
     {
         let mut named = [false; 64];
-        for i in 0..self.height {
-            note(&mut named, base, self.at(i).reason);
+        for e in self.entries.as_slice() {
+            note(&mut named, base, e.reason);
         }
         named
     }
@@ -28,7 +29,8 @@ fn note(named: &mut [bool], base: usize, reason: Reason)
     let Reason::Forced(place) = reason else {
         return;
     };
-    let place = place as usize;
+    let place = usize::from(place);
+    // written by index: what get_mut of a slice writes, a proof does not know
     if place >= base && place - base < named.len() {
         named[place - base] = true;
     }

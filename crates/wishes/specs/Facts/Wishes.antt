@@ -2,11 +2,12 @@
 use Rattle.std.specs.Prelude.{◌≡◌, ℕ, zero, suc, ◌+◌, ◌-◌, ◌*◌, ◌/◌, ◌%◌, ◌^◌, ◌<◌, ◌≤◌, true, false, cond, List, [], ◌∷◌, ◌++◌, length, get_or, ◌==◌, ◌≢◌, slice_index, slice_index_or, refl}
 use Rattle.std.proofs.Common.{sym, ap, subst, ◌∙◌, ⊎_elim, arith, length-append}
 use Rattle.std.proofs.Math.ListN.{get_or-eq_default}
-use Rattle.std.proofs.lemmas.Bool.{leb-true, and_parts, cond_both, cases_lt}
+use Rattle.std.proofs.lemmas.Bool.{leb-true, le-leb, and_parts, and_from, cond_both, cases_lt}
 use Rattle.std.proofs.lemmas.List.{get_or_append_left, get_or-append_right}
-use Rattle.cases.specs.Meanings.{Meaning, Sound, sound, is_oversize, options_of, rules_of, amounts_of, amount_of}
+use Rattle.cases.specs.Meanings.{Meaning, Sound, oversize, sound, is_oversize, options_of, rules_of, amounts_of, amount_of}
 use Rattle.cases.specs.Limits.{Limited}
-use Rattle.layers.specs.Facts.Layered.{where_sound, limited_layered, each_rule, rules_counted, rule_kept, rule_added}
+use Rattle.layers.specs.Facts.Layered.{where_sound, where_held, limited_layered, each_rule, rules_counted, rule_kept, rule_added}
+use Rattle.layers.specs.Layered.{SoundIfHeld}
 use Rattle.layers.specs.Rows.{past_all}
 use Rattle.wishes.specs.Wishes.{Wish, wish_reach, wish_rules, wish_amounts, wish_sound, wish_room, wishing}
 
@@ -107,6 +108,19 @@ module _ (ws : List Wish) (s : Sound) where
 pub limited_wishing : (ws : List Wish) → HeldWishes ws → (m : Meaning) → Limited m → Limited (wishing ws m)
 limited_wishing ws held = limited_layered (wish_room ws) (wish_sound ws) (λ s. limited_wish_sound ws s held)
 
+-- A layer whose amounts are those below and then those of its wishes.
+module _ (ws : List Wish) (m : Meaning) (h : Limited m) (e : amounts_of (wishing ws m) ≡ amounts_of m ++ wish_amounts ws) where
+  amount_kept : (l : ℕ) → l < 2 * options_of m → amount_of (wishing ws m) l ≡ amount_of m l
+  amount_kept l k = ap (λ x. slice_index x l) e ∙ get_or_append_left (amounts_of m) (wish_amounts ws) 0 l (omega (arith, h.amount_each))
+
+  amount_added : (l : ℕ) → 2 * options_of m ≤ l → amount_of (wishing ws m) l ≡ cond (l % 2 == 0) (get_or ws ((l - 2 * options_of m) / 2) no_wish).amount 0
+  amount_added l k =
+      let even : (l - 2 * options_of m) % 2 ≡ l % 2 = omega arith in
+      ap (λ x. slice_index x l) e
+      ∙ get_or-append_right (amounts_of m) (wish_amounts ws) (2 * options_of m) l 0 h.amount_each k
+      ∙ get_or-wish_amounts ws (l - 2 * options_of m)
+      ∙ ap (λ x. cond (x == 0) (get_or ws ((l - 2 * options_of m) / 2) no_wish).amount 0) even
+
 -- Of a layer that is not oversize:
 module _ (ws : List Wish) (m : Meaning) (fine : is_oversize (wishing ws m) ≡ false) where
   pub wish_options : options_of (wishing ws m) ≡ options_of m + length ws
@@ -129,12 +143,42 @@ module _ (ws : List Wish) (m : Meaning) (fine : is_oversize (wishing ws m) ≡ f
 
   module _ (h : Limited m) where
     pub wish_amount_kept : (l : ℕ) → l < 2 * options_of m → amount_of (wishing ws m) l ≡ amount_of m l
-    wish_amount_kept l k = ap (λ x. slice_index x l) amounts_told ∙ get_or_append_left (amounts_of m) (wish_amounts ws) 0 l (omega (arith, h.amount_each))
+    wish_amount_kept l k = amount_kept ws m h amounts_told l k
 
     pub wish_amount_added : (l : ℕ) → 2 * options_of m ≤ l → amount_of (wishing ws m) l ≡ cond (l % 2 == 0) (get_or ws ((l - 2 * options_of m) / 2) no_wish).amount 0
-    wish_amount_added l k =
-        let e : (l - 2 * options_of m) % 2 ≡ l % 2 = omega arith in
-        ap (λ x. slice_index x l) amounts_told
-        ∙ get_or-append_right (amounts_of m) (wish_amounts ws) (2 * options_of m) l 0 h.amount_each k
-        ∙ get_or-wish_amounts ws (l - 2 * options_of m)
-        ∙ ap (λ x. cond (x == 0) (get_or ws ((l - 2 * options_of m) / 2) no_wish).amount 0) e
+    wish_amount_added l k = amount_added ws m h amounts_told l k
+
+-- Of a layer that is not oversize where it holds wishes:
+module _ (ws : List Wish) (m : Meaning) (limits : Limited m) (held : SoundIfHeld wishing ws m) where
+  told : (P : Meaning → Meaning → Type 0) → (ws ≡ [] → P oversize oversize) → ((s : Sound) → P (sound s) (sound (wish_sound ws s))) → P m (wishing ws m)
+  told =
+      where_held wish_room wish_sound ws m
+      (and_from _ _ (le-leb (options_of m + 0) 56 (omega (arith, limits.few_options)))
+      (and_from _ _ (le-leb (length (rules_of m) + 0) 512 (omega (arith, limits.few_rules))) (le-leb 0 (2 * options_of m) (omega arith)))) held
+
+  pub wish_oversize : is_oversize (wishing ws m) ≡ is_oversize m
+  wish_oversize = told (λ m t. is_oversize t ≡ is_oversize m) (λ _. refl) (λ _. refl)
+
+  pub wish_options_held : options_of (wishing ws m) ≡ options_of m + length ws
+  wish_options_held = told (λ m t. options_of t ≡ options_of m + length ws) (λ e. omega (arith, ap length e)) (λ _. refl)
+
+  rules_told_held : rules_of (wishing ws m) ≡ rules_of m ++ wish_rules (options_of m) ws
+  rules_told_held = told (λ m t. rules_of t ≡ rules_of m ++ wish_rules (options_of m) ws) (λ e. sym (ap (wish_rules 0) e)) (λ _. refl)
+
+  amounts_told_held : amounts_of (wishing ws m) ≡ amounts_of m ++ wish_amounts ws
+  amounts_told_held = told (λ m t. amounts_of t ≡ amounts_of m ++ wish_amounts ws) (λ e. sym (ap wish_amounts e)) (λ _. refl)
+
+  pub wish_rules_counted_held : length (rules_of (wishing ws m)) ≡ length (rules_of m) + length ws
+  wish_rules_counted_held = rules_counted m (wishing ws m) (wish_rules (options_of m) ws) rules_told_held ∙ ap (λ n. length (rules_of m) + n) (length-wish_rules (options_of m) ws)
+
+  pub wish_rule_kept_held : (r : ℕ) → r < length (rules_of m) → slice_index_or (rules_of (wishing ws m)) r [] ≡ slice_index_or (rules_of m) r []
+  wish_rule_kept_held r h = rule_kept m (wishing ws m) (wish_rules (options_of m) ws) rules_told_held r h
+
+  pub wish_rule_added_held : (r : ℕ) → length (rules_of m) ≤ r → r - length (rules_of m) < length ws → slice_index_or (rules_of (wishing ws m)) r [] ≡ wish_rule (options_of m) ws (r - length (rules_of m))
+  wish_rule_added_held r h k = rule_added m (wishing ws m) (wish_rules (options_of m) ws) rules_told_held r h ∙ get_or-wish_rules (options_of m) ws (r - length (rules_of m)) k
+
+  pub wish_amount_kept_held : (l : ℕ) → l < 2 * options_of m → amount_of (wishing ws m) l ≡ amount_of m l
+  wish_amount_kept_held l k = amount_kept ws m limits amounts_told_held l k
+
+  pub wish_amount_added_held : (l : ℕ) → 2 * options_of m ≤ l → amount_of (wishing ws m) l ≡ cond (l % 2 == 0) (get_or ws ((l - 2 * options_of m) / 2) no_wish).amount 0
+  wish_amount_added_held l k = amount_added ws m limits amounts_told_held l k

@@ -1,5 +1,5 @@
 -- Each turn reads a field and notes it; what the calls ensure of both is one turn of scanning the file.
-use Rattle.std.proofs.Common.{◌≡◌, ℕ, suc, pred, ◌-◌, List, length, Ok, Err, Option, sym, ap, ◌∙◌, subst, ap₂, arith}
+use Rattle.std.proofs.Common.{◌≡◌, ℕ, suc, pred, ◌-◌, List, length, Ok, Err, Option, sym, ap, ◌∙◌, subst, ap₂, arith, rules, tests}
 use Rattle.std.proofs.lemmas.Result.{err_from_is_err_and}
 use Rattle.casefile.specs.declared.field.Phase.{Phase}
 use Rattle.casefile.specs.Format.{Octets}
@@ -19,16 +19,16 @@ pub loop-field-init : goal.loop-field-init
 loop-field-init c =
     let e = c.new-reader.ensures in
     let b = c.args.bytes.now in (
-      e.0,
+      e.bytes,
       omega arith,
       (
         blank,
         suc (length b),
         kept_blank,
         c.new-index.ensures.blank b,
-        subst (λ (p : Phase). Reach p blank c.new-reader.result.at) (sym e.2) e.1,
+        subst (λ (p : Phase). Reach p blank c.new-reader.result.at) (sym e.phase) e.place,
         omega arith,
-        ap₂ (λ (p : Phase) (i : ℕ). scan_from (suc (length b)) blank p b i) e.2 e.1 ∙ same b,
+        ap₂ (λ (p : Phase) (i : ℕ). scan_from (suc (length b)) blank p b i) e.phase e.place ∙ same b,
       ),
     )
 
@@ -74,9 +74,9 @@ stands_field c =
     let w = c.next.new.self in
     stands r.phase c.args.bytes.now r.at (item c.in-Some.field) w.phase w.at (reads_field c)
 
-pub returns-in-Err : goal.returns-in-Err
-returns-in-Err c =
-    let d = (goal.at.returns-in-Err c).In-Some in
+pub returns-in_err-map_err : goal.returns-in_err-map_err
+returns-in_err-map_err c =
+    let d = (goal.at.returns-in_err-map_err c).In-Some in
     let i = c.loop-field.invariant in
     let r = c.loop-field.reader in
     let w = c.next.new.self in
@@ -84,10 +84,13 @@ returns-in-Err c =
     let b = c.args.bytes.now in
     let s = i.2.0 in
     let at_place = subst (λ (k : ℕ). Stands b k it) (sym c.place-place.ensures) (stands_field d) in
-    let n = c.in-Err.ensures.noted b s i.2.3 at_place in
-    sym i.2.6 ∙ erred i.2.1 (length b - r.at) s r.phase r.bytes.now b r.at i.0 i.2.5
-    it w.phase w.at (gave_field d) c.in-Err.fault (noted_err b (judged s it) c.in-Err.fault c.note.new.self n)
-    ∙ ap (refused c.in-Err.fault) (sym c.place-place.ensures)
+    let f = c.in_err-map_err.field-0.0 in
+    let n = noted_err b (judged s it) c.note.result c.note.new.self f c.place-place.result c.in_err-map_err.ensures.cases (λ e h. search (rules, tests)) (c.note.ensures.noted b s i.2.3 at_place) in
+    let p = err_from_is_err_and c.from_residual-in_err-map_err.result c.from_residual-in_err-map_err.ensures.1 in
+    subst (Judged b) (sym (p.1 ∙ ap Err p.2))
+    (sym i.2.6 ∙ erred i.2.1 (length b - r.at) s r.phase r.bytes.now b r.at i.0 i.2.5
+    it w.phase w.at (gave_field d) f.fault n.0
+    ∙ ap (refused f.fault) (sym (n.1 ∙ c.place-place.ensures)))
 
 pub loop-field-smaller : goal.loop-field-smaller
 loop-field-smaller c =
@@ -108,7 +111,7 @@ loop-field-preserved c =
     let rd = reads_field d in
     let m = moved r.phase b r.at it w.phase w.at rd in
     let at_place = subst (λ (k : ℕ). Stands b k it) (sym c.place-place.ensures) (stands_field d) in
-    let t = noted_ok b (judged s it) c.in_default-note.field-0 c.note.new.self (c.in_default-note.ensures.noted b s i.2.3 at_place) in
+    let t = noted_ok b (judged s it) c.note.result c.note.new.self c.in_ok-map_err.ensures.variant (c.note.ensures.noted b s i.2.3 at_place) in
     let o : Octets b = λ k _. omega (arith, c.type_inv.bytes k) in (
       c.in_ok-field.ensures.bytes ∙ i.0,
       m.1,

@@ -1,27 +1,26 @@
-use Rattle.std.proofs.Common.{ℕ, ◌<◌, List, [], length, get_or, take, ap, ◌∙◌, arith}
-use Rattle.std.proofs.lemmas.List.{take_all, length-append}
+use Rattle.std.proofs.Common.{[], length, get_or, refl, ◌∙◌, rules, tests, arith}
+use Rattle.std.proofs.lemmas.Iterator.{YieldsList-from_range, YieldsList-from_map}
+use Rattle.std.proofs.lemmas.Iterator.Consumers.{YieldsList-at, fits_from_yields_list, sum_from_yields_List}
 use Rattle.cases.specs.Meanings.{rules_of}
-use Rattle.casefile.specs.Bytes.{field, rule_fields}
-use Rattle.casefile.proofs.Over.{rules_more}
+use Rattle.casefile.specs.Bytes.{field}
+use Rattle.casefile.proofs.Over.{rules_sum, rules_small}
 use Rattle.casefile.proofs.writer.rules_len.Goals as goal
 
-pub overflow_add-n : goal.overflow_add-n
-overflow_add-n g c = omega (arith, (g.C.Case.limits c.args.case.now).short_rules c.loop-r.r)
-
-pub overflow_add-n-in-loop-r : goal.overflow_add-n-in-loop-r
-overflow_add-n-in-loop-r g c = omega (arith, (g.C.Case.limits c.args.case.now).short_rules c.loop-r.r, (g.C.Case.limits c.args.case.now).few_rules)
-
-pub loop-r-preserved : goal.loop-r-preserved
-loop-r-preserved g c =
+-- Both answers build the chain: its steps are a term that Rattle makes for the call, with no name to state a lemma over.
+pub sum-requires-clause-fits : goal.sum-requires-clause-fits
+sum-requires-clause-fits g c =
     let rs = rules_of (g.C.Case.meaning c.args.case.now) in
-    let r = c.loop-r.r in
-    let h : r < length rs = omega arith in
-    (omega (arith, ap length (rules_more rs r h), length-append (rule_fields (take r rs)) (field 3 (get_or rs r []))), omega (arith, (g.C.Case.limits c.args.case.now).short_rules r))
+    let k = g.met.C.Case.limits c.args.case.now in
+    let n = c.rules.result in
+    fits_from_yields_list c.map.result _
+    (YieldsList-from_map _ (λ r. length (field 3 (get_or rs r []))) (YieldsList-at c.map.ensures.source (YieldsList-from_range 0 n n refl (omega arith))) c.map.ensures.closure (λ x r q k. search (rules, tests)))
+    (omega (arith, rules_sum rs n c.rules.ensures, rules_small rs k.short_rules, k.few_rules))
 
 pub returns : goal.returns
 returns g c =
     let rs = rules_of (g.C.Case.meaning c.args.case.now) in
-    record {
-      value = c.loop-r.invariant.0 ∙ ap (λ (z : List (List ℕ)). length (rule_fields z)) (take_all c.loop-r.r rs (omega arith));
-      small = omega (arith, (g.C.Case.limits c.args.case.now).few_rules);
-    }
+    let k = g.met.C.Case.limits c.args.case.now in
+    let n = c.rules.result in
+    let v = sum_from_yields_List c.map.result c.sum.result c.sum.ensures.ran
+    (YieldsList-from_map _ (λ r. length (field 3 (get_or rs r []))) (YieldsList-at c.map.ensures.source (YieldsList-from_range 0 n n refl (omega arith))) c.map.ensures.closure (λ x r q k. search (rules, tests))) in
+    record { value = v ∙ rules_sum rs n c.rules.ensures; small = omega (arith, v, rules_sum rs n c.rules.ensures, rules_small rs k.short_rules, k.few_rules) }

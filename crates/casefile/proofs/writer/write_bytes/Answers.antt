@@ -1,9 +1,11 @@
-use Rattle.std.proofs.Common.{sym, ◌∙◌, arith}
+use Rattle.std.proofs.Common.{sym, ◌∙◌, rules, arith}
 use Rattle.casefile.proofs.Over.{written_ok}
 use Rattle.casefile.proofs.writer.write_bytes.Goals as goal
 
-pub returns : goal.returns
-returns g c =
-    let w = written_ok (g.C.Case.meaning c.args.case.now) c.args.out.now c.put_case.new.out c.put_case.result
-    (sym c.oversize.ensures ∙ c.if-oversize.false) (omega arith) c.put_case.ensures.value c.put_case.ensures.after in
-    record { answers = w.0; leaves = w.1 }
+pub returns-clause-leaves : goal.returns-clause-leaves
+returns-clause-leaves g c =
+    let w = c.put_case.ensures in
+    let same = sym w.same in
+    ◌∙◌ {b = c.put_case.new.self.out.now} (search rules)
+    (written_ok (g.C.Case.meaning c.args.case.now) c.args.out.now c.put_case.new.self.out.now c.put_case.new.self.at
+    (sym c.oversize.ensures ∙ c.if-oversize.false) (omega arith) (omega (arith, w.place)) w.bytes).1

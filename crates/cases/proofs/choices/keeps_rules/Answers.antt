@@ -1,22 +1,17 @@
-use Rattle.std.proofs.Common.{◌<◌, length, sym, ◌∙◌, arith}
-use Rattle.cases.specs.Choices.{sets}
+use Rattle.std.proofs.Common.{◌≡◌, rules, tests, [], length, get_or, ◌∙◌}
+use Rattle.std.specs.List.{range_with_len, list_all}
+use Rattle.std.proofs.lemmas.Iterator.{YieldsList-from_range}
+use Rattle.std.proofs.lemmas.Iterator.Search.{all_from_yields_List}
+use Rattle.cases.specs.Choices.{sets, keeps}
 use Rattle.cases.specs.Meanings.{rules_of}
-use Rattle.cases.proofs.Keeping.{breaks_here, kept_so_far, kept_all}
+use Rattle.cases.proofs.Places.{keeps_all_by_places}
 use Rattle.cases.proofs.choices.keeps_rules.Goals as goal
-
-pub returns-then-not-keeps_rule : goal.returns-then-not-keeps_rule
-returns-then-not-keeps_rule g c =
-    let rules = rules_of (g.C.Case.meaning c.args.case.now) in
-    let h : c.loop-r.r < length rules = omega arith in
-    sym (breaks_here (sets c.args.choice.now) rules c.loop-r.r h c.if-not-keeps_rule.ensures) ∙ c.loop-r.invariant
-
-pub loop-r-preserved : goal.loop-r-preserved
-loop-r-preserved g c =
-    let rules = rules_of (g.C.Case.meaning c.args.case.now) in
-    let h : c.loop-r.r < length rules = omega arith in
-    sym (kept_so_far (sets c.args.choice.now) rules c.loop-r.r h c.if-not-keeps_rule.ensures) ∙ c.loop-r.invariant
 
 pub returns : goal.returns
 returns g c =
-    let rules = rules_of (g.C.Case.meaning c.args.case.now) in
-    sym (kept_all (sets c.args.choice.now) rules c.loop-r.r (omega arith)) ∙ c.loop-r.invariant
+    let S = sets c.args.choice.now in
+    let all = rules_of (g.C.Case.meaning c.args.case.now) in
+    let n = length all in
+    let ran : c.all.result ≡ list_all (λ r. keeps S (get_or all r [])) (range_with_len 0 n) =
+    all_from_yields_List (λ r. keeps S (get_or all r [])) _ _ c.all.result c.all.ensures.ran (YieldsList-from_range 0 n n (search rules) (search rules)) (λ x b q k. search (rules, tests)) in
+    ran ∙ keeps_all_by_places S all

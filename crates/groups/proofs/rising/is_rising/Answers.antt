@@ -1,38 +1,24 @@
-use Rattle.std.proofs.Common.{◌≡◌, ℕ, ◌+◌, ◌-◌, ◌<◌, ◌≤◌, true, ◌&&◌, ltb, List, [], ◌∷◌, length, get_or, drop, sym, refl, ap, ◌∙◌, arith, length-drop}
-use Rattle.std.proofs.lemmas.List.{drop_more}
-use Rattle.std.proofs.lemmas.Bool.{lt-ltb, le-ltb}
+use Rattle.std.proofs.Common.{◌≡◌, ℕ, zero, suc, ◌+◌, ◌<◌, Bool, true, false, ltb, List, [], ◌∷◌, length, get_or, sym, refl, ap, ◌∙◌, rules, tests, arith}
+use Rattle.std.specs.List.{IsAllAdjacentAnswer}
+use Rattle.std.proofs.lemmas.List.Sorted.{answers_always}
+use Rattle.std.proofs.lemmas.Bool.{and_from, and_left, and_right}
 use Rattle.groups.specs.Groups.{rising}
 use Rattle.groups.proofs.rising.is_rising.Goals as goal
 
--- the number before place i, that at place i, and those after it
-two : (xs : List ℕ) (i : ℕ) → 1 ≤ i → i < length xs → rising (drop (i - 1) xs) ≡ (ltb (get_or xs (i - 1) 0) (get_or xs i 0) && rising (drop i xs))
-two xs i h k =
-    let e : (i - 1) + 1 ≡ i = omega arith in
-    let after : drop (i - 1) xs ≡ get_or xs (i - 1) 0 ∷ get_or xs i 0 ∷ drop (i + 1) xs =
-    drop_more xs (i - 1) 0 (omega arith) ∙ ap (λ ys. get_or xs (i - 1) 0 ∷ ys) (ap (λ n. drop n xs) e ∙ drop_more xs i 0 k) in
-    ap rising after ∙ ap (λ ys. ltb (get_or xs (i - 1) 0) (get_or xs i 0) && rising ys) (sym (drop_more xs i 0 k))
-
-one : (xs : List ℕ) → length xs ≤ 1 → rising xs ≡ true
-one [] h = refl
-one (x ∷ []) h = refl
-one (x ∷ y ∷ xs) h = absurd (omega arith)
-
-pub returns-then-list-i : goal.returns-then-list-i
-returns-then-list-i c =
-    let xs = c.args.list.now in
-    let i = c.loop-i.i in
-    sym (ap (λ b. b && rising (drop i xs)) (le-ltb (get_or xs (i - 1) 0) (get_or xs i 0) c.if-list-i.true)) ∙ sym (two xs i c.loop-i.auto.i c.loop-i-test.true) ∙ c.loop-i.invariant
-
-pub loop-i-preserved : goal.loop-i-preserved
-loop-i-preserved c =
-    let xs = c.args.list.now in
-    let i = c.loop-i.i in
-    let e : (i + 1) - 1 ≡ i = omega arith in
-    ap (λ n. rising (drop n xs)) e
-    ∙ sym (ap (λ b. b && rising (drop i xs)) (lt-ltb (get_or xs (i - 1) 0) (get_or xs i 0) c.if-list-i.false)) ∙ sym (two xs i c.loop-i.auto.i c.loop-i-test.true) ∙ c.loop-i.invariant
+told : (r : Bool) (xs : List ℕ) → IsAllAdjacentAnswer (λ x y b. b ≡ ltb x y) xs r → r ≡ rising xs
+told true [] h = refl
+told true (a ∷ []) h = refl
+told true (a ∷ b ∷ xs) h =
+    let later : (k d : ℕ) → k + 1 < length (b ∷ xs) → true ≡ ltb (get_or (b ∷ xs) k d) (get_or (b ∷ xs) (k + 1) d) =
+    λ k d l. let next : (suc k) + 1 ≡ suc (k + 1) = omega arith in h (suc k) d (omega arith) ∙ ap (λ n. ltb (get_or (b ∷ xs) k d) (get_or (a ∷ b ∷ xs) n d)) next in
+    sym (and_from (ltb a b) (rising (b ∷ xs)) (sym (h 0 0 (omega arith))) (sym (told true (b ∷ xs) later)))
+told false [] h = absurd (omega (arith, h.1))
+told false (a ∷ []) h = absurd (omega (arith, h.1))
+told false (a ∷ b ∷ xs) (zero, l, h) = sym (and_left (ltb a b) (rising (b ∷ xs)) (sym (h 0)))
+told false (a ∷ b ∷ xs) (suc k, l, h) =
+    let next : (suc k) + 1 ≡ suc (k + 1) = omega arith in
+    let later : (d : ℕ) → false ≡ ltb (get_or (b ∷ xs) k d) (get_or (b ∷ xs) (k + 1) d) = λ d. h d ∙ ap (λ n. ltb (get_or (b ∷ xs) k d) (get_or (a ∷ b ∷ xs) n d)) next in
+    sym (and_right (ltb a b) (rising (b ∷ xs)) (sym (told false (b ∷ xs) (k, omega arith, later))))
 
 pub returns : goal.returns
-returns c =
-    let xs = c.args.list.now in
-    let i = c.loop-i.i in
-    sym (one (drop (i - 1) xs) (simp length-drop (omega arith))) ∙ c.loop-i.invariant
+returns c = told c.is_sorted_by.result c.args.list.now (c.is_sorted_by.ensures.cases ltb (answers_always _ _ _ (λ f a r q h. search (rules, tests))))

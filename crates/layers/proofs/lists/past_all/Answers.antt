@@ -1,19 +1,25 @@
-use Rattle.std.proofs.Common.{◌≡◌, ◌+◌, ◌<◌, max, length, get_or, drop, arith}
-use Rattle.std.proofs.lemmas.List.{at_drop_more, at_drop_all}
+use Rattle.std.proofs.Common.{rules, ◌≡◌, max, ℕ, ◌+◌, None, Some, Option, List, [], ◌∷◌, map, sym, refl, ap, ◌∙◌, arith}
+use Rattle.std.proofs.lemmas.Iterator.{YieldsList-from_slice, YieldsList-from_map}
+use Rattle.std.proofs.lemmas.Iterator.Consumers.{max_from_yields_List}
+use Rattle.std.specs.Option.{unwrap_or, option_map}
+use Rattle.std.specs.List.{reduce, fold}
 use Rattle.layers.specs.Rows.{past_all}
 use Rattle.layers.proofs.lists.past_all.Goals as goal
-use Rattle.layers.proofs.lists.past_all.Goals.{then-past-next, else-past-next}
 
-pub loop-x-preserved : goal.loop-x-preserved
-loop-x-preserved c =
-    let xs = c.args.list.now in
-    let i = c.loop-x.x-index in
-    let h : i < length xs = omega arith in
-    let more : past_all (drop i xs) ≡ max (get_or xs i 0 + 1) (past_all (drop (i + 1) xs)) = at_drop_more past_all xs i 0 h in
-    elim c.if-past-next.branch [ then-past-next w ↦ omega (arith, more, w.past-is, w.if-past-next.true) | else-past-next w ↦ omega (arith, more, w.past-is, w.if-past-next.false) ]
+largest : (a : ℕ) (xs : List ℕ) → fold max a (map (λ x. x + 1) xs) ≡ max a (past_all xs)
+largest a [] = omega arith
+largest a (x ∷ xs) = largest (max a (x + 1)) xs ∙ omega arith
+
+same : (r : Option ℕ) → option_map (λ (x : ℕ). x) r ≡ r
+same None = refl
+same (Some x) = refl
+
+past : (xs : List ℕ) → unwrap_or (reduce max (map (λ x. x + 1) xs)) 0 ≡ past_all xs
+past [] = refl
+past (x ∷ xs) = largest (x + 1) xs
 
 pub returns : goal.returns
 returns c =
     let xs = c.args.list.now in
-    let none : past_all (drop c.loop-x.x-index xs) ≡ 0 = at_drop_all past_all xs c.loop-x.x-index (omega arith) in
-    omega (arith, c.loop-x.invariant)
+    let e = max_from_yields_List {v = λ x. x} _ c.max.result c.max.ensures.ran (YieldsList-from_map _ (λ x. x + 1) (YieldsList-from_slice xs cc) refl (λ x r q k. search rules)) in
+    c.unwrap_or.ensures ∙ ap (λ r. unwrap_or r 0) (sym (same c.max.result) ∙ e) ∙ past xs

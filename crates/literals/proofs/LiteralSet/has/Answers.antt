@@ -1,12 +1,13 @@
-use Rattle.std.proofs.Common.{sym, refl, ◌∙◌, arith}
+use Rattle.std.proofs.Common.{ℕ, eqb, sym, ap, ◌∙◌, arith}
 use Rattle.std.proofs.lemmas.Bool.{le-ltb}
+use Rattle.std.proofs.lemmas.Nat.Bits.{shr_and_one}
 use Rattle.literals.specs.Members.{member}
 use Rattle.literals.proofs.Digits.{none_past}
 use Rattle.literals.proofs.LiteralSet.has.Goals as goal
 
 pub returns-then-l-lt-SPAN : goal.returns-then-l-lt-SPAN
 unfolding member
-returns-then-l-lt-SPAN c = refl
+returns-then-l-lt-SPAN c = ap (λ (x : ℕ). eqb x 1) (shr_and_one c.args.self.now.bits c.args.l)
 
 pub returns-else-l-lt-SPAN : goal.returns-else-l-lt-SPAN
 unfolding member

@@ -13,4 +13,4 @@ full (sound s) h = h.amount_each
 pub returns : goal.returns
 returns g c ws =
     let m = g.C.Case.meaning c.args.case.now in
-    wish_charged (kind_of g.K.Charge) g.met.K.Charge.laws ws (contents m) (full m (g.C.Case.limits c.args.case.now))
+    wish_charged (kind_of g.K.Charge) g.met.K.Charge.laws ws (contents m) (full m (g.met.C.Case.limits c.args.case.now))

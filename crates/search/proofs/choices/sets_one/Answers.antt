@@ -1,20 +1,11 @@
-use Rattle.std.proofs.Common.{get_or, sym, ◌∙◌}
-use Rattle.std.proofs.lemmas.List.{get_or_default}
+use Rattle.std.proofs.Common.{◌∙◌, rules, tests}
+use Rattle.std.proofs.lemmas.Iterator.{YieldsList-from_slice}
+use Rattle.std.proofs.lemmas.Iterator.Search.{any_from_yields_List}
 use Rattle.cases.specs.Choices.{sets}
-use Rattle.cases.proofs.Keeping.{keeps_here, keeps_later, keeps_none}
+use Rattle.cases.proofs.Places.{any_keeps}
 use Rattle.search.proofs.choices.sets_one.Goals as goal
 
-pub returns-then-sets_literal : goal.returns-then-sets_literal
-returns-then-sets_literal c =
-    let xs = c.args.literals.now in
-    let i = c.loop-l.l-index in
-    sym (keeps_here (sets c.args.choice.now) xs i c.loop-l-test.true (get_or xs i 0) (get_or_default xs i 0 255 c.loop-l-test.true) c.if-sets_literal.ensures) ∙ c.loop-l.invariant
-
-pub loop-l-preserved : goal.loop-l-preserved
-loop-l-preserved c =
-    let xs = c.args.literals.now in
-    let i = c.loop-l.l-index in
-    sym (keeps_later (sets c.args.choice.now) xs i c.loop-l-test.true (get_or xs i 0) (get_or_default xs i 0 255 c.loop-l-test.true) c.if-sets_literal.ensures) ∙ c.loop-l.invariant
-
 pub returns : goal.returns
-returns c = sym (keeps_none (sets c.args.choice.now) c.args.literals.now c.loop-l.l-index c.loop-l-test.false) ∙ c.loop-l.invariant
+returns c =
+    any_from_yields_List (sets c.args.choice.now) _ _ c.any.result c.any.ensures.ran (YieldsList-from_slice c.args.literals.now (search rules)) (λ x b q k. search (rules, tests))
+    ∙ any_keeps (sets c.args.choice.now) c.args.literals.now

@@ -17,11 +17,11 @@ no_reason t i e = ap (λ (x : Trail). is_reason x i) e
 
 pub returns : goal.returns
 returns c =
-    let tb = c.args.tables.now in
+    let tb = c.args.work.now in
     let rs = rows_of tb.learned in
     let rows = c.note.ensures in
     record {
-      leaves = same_shape {b = restarting (shape tb)} refl c.clear.ensures refl refl (ap rules_learned rows ∙ learned_noting (replicate 64 false) rs) refl refl;
+      leaves = same_shape {b = restarting (shape tb)} c.clear.ensures refl refl (ap rules_learned rows ∙ learned_noting (replicate 64 false) rs) refl refl;
       notes = λ base j h.
           let k : j < length rs = omega (arith, ap length rows, length-noting (replicate 64 false) rs) in
           ap (λ (x : List Noted). (get_or x j nothing_noted).reason) rows ∙ note_at (replicate 64 false) rs j k ∙ no_marks 64 j ∙ sym (no_reason (listed c.clear.new.self) (base + j) c.clear.ensures);

@@ -30,6 +30,6 @@ returns g c =
     let n = (contents p).options in
     let t = listed c.args.trail.now in
     let D = member c.args.set.now in
-    told n t D c.meet-2.result (omega (arith, contents_options p, (g.P.Case.limits c.args.pile.now).few_options)) (omega (arith, c.level.ensures.answers, c.if-level-eq0.false))
+    told n t D c.meet-2.result (omega (arith, contents_options p, (g.met.P.Case.limits c.args.pile.now).few_options)) (omega (arith, c.level.ensures.answers, c.if-level-eq0.false))
     (λ x. c.meet-2.ensures x ∙ ap₂ (λ (a b : Bool). a && b) (c.meet.ensures x ∙ ap (λ (b : Bool). b && D x) (c.top_complements.ensures x)) (c.all_literals.ensures x))
     c.only.result c.only.ensures

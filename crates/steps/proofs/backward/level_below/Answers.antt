@@ -27,7 +27,7 @@ unfolding others
 returns g c =
     let p = g.P.Case.meaning c.args.pile.now in
     let n2 = 2 * (contents p).options in
-    let few : n2 ≤ 128 = omega (arith, contents_options p, (g.P.Case.limits c.args.pile.now).few_options) in
+    let few : n2 ≤ 128 = omega (arith, contents_options p, (g.met.P.Case.limits c.args.pile.now).few_options) in
     let D = member c.args.set.now in
     let l = c.args.literal in
     let rest : (x : ℕ) → member c.remove.new.self x ≡ (not (eqb x l) && (D x && ltb x n2)) =

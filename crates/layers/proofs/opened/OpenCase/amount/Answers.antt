@@ -11,11 +11,11 @@ returns-then-l-eq0 g c =
     let l = c.args.l in
     let room = room_told open_room m c.options.ensures c.rules.ensures c.if-not-has_room.ensures in
     let e : l % 2 ≡ 0 = omega arith in
-    sym (open_amount l m room (g.C.Case.limits c.args.self.now.below).amount_each ∙ cond-true (eqb (l % 2) 0) _ _ (eq-eqb (l % 2) 0 e) ∙ sym c.amount.ensures)
+    sym (open_amount l m room (g.met.C.Case.limits c.args.self.now.below).amount_each ∙ cond-true (eqb (l % 2) 0) _ _ (eq-eqb (l % 2) 0 e) ∙ sym c.amount.ensures)
 
 pub returns-else-l-eq0 : goal.returns-else-l-eq0
 returns-else-l-eq0 g c =
     let m = g.C.Case.meaning c.args.self.now.below in
     let l = c.args.l in
     let room = room_told open_room m c.options.ensures c.rules.ensures c.if-not-has_room.ensures in
-    sym (open_amount l m room (g.C.Case.limits c.args.self.now.below).amount_each ∙ cond-false (eqb (l % 2) 0) _ _ (ne_eqb (l % 2) 0 (λ e. omega arith)))
+    sym (open_amount l m room (g.met.C.Case.limits c.args.self.now.below).amount_each ∙ cond-false (eqb (l % 2) 0) _ _ (ne_eqb (l % 2) 0 (λ e. omega arith)))

@@ -1,9 +1,9 @@
-use Rattle.std.proofs.Common.{◌+◌, ◌-◌, ◌*◌, ◌<◌, ◌≤◌, length, get_or, sym, ap, ◌∙◌, arith}
+use Rattle.std.proofs.Common.{◌+◌, ◌-◌, ◌<◌, ◌≤◌, length, get_or, sym, ap, ◌∙◌, arith}
 use Rattle.cases.specs.Meanings.{rules_of, options_of}
 use Rattle.cases.specs.Facts.Limits.{rule_out}
 use Rattle.layers.specs.Facts.Layered.{room_told}
 use Rattle.layers.specs.Opens.{open_room, opened, not_both}
-use Rattle.layers.specs.Facts.Opens.{open_rules, rule_not_both, literal_marked, literal_none}
+use Rattle.layers.specs.Facts.Opens.{open_rules, rule_not_both, literal_none}
 use Rattle.layers.proofs.opened.OpenCase.literal.Goals as goal
 
 pub returns-then-r-rules : goal.returns-then-r-rules
@@ -23,16 +23,9 @@ returns-then-r-rules-2 g c =
     ∙ ap (λ b. get_or (not_both (r - b)) c.args.j 255) c.rules-rules.ensures
     ∙ sym (ap (λ x. get_or x c.args.j 255) (rule_not_both r m room h k))
 
-pub returns-then-l-lt128 : goal.returns-then-l-lt128
-returns-then-l-lt128 g c =
-    let m = g.C.Case.meaning c.args.self.now.below in
-    let room = room_told open_room m c.options-options.ensures c.rules-rules.ensures c.if-not-has_room.ensures in
-    let h : c.args.r < length (rules_of m) = omega (arith, c.rules-rules.ensures) in
-    ap (λ l. 2 * l) c.literal-l.ensures ∙ sym (literal_marked c.args.r c.args.j m room h (omega (arith, c.literal-l.ensures)))
-
 pub returns-else-l-lt128 : goal.returns-else-l-lt128
 returns-else-l-lt128 g c =
     let m = g.C.Case.meaning c.args.self.now.below in
     let room = room_told open_room m c.options-options.ensures c.rules-rules.ensures c.if-not-has_room.ensures in
     let h : c.args.r < length (rules_of m) = omega (arith, c.rules-rules.ensures) in
-    sym (literal_none c.args.r c.args.j m room h (g.C.Case.limits c.args.self.now.below) (omega (arith, c.literal-l.ensures)))
+    sym (literal_none c.args.r c.args.j m room h (g.met.C.Case.limits c.args.self.now.below) (omega (arith, c.literal-l.ensures)))

@@ -1,19 +1,10 @@
-use Rattle.std.proofs.Common.{◌+◌, ◌<◌, ◌≤◌, [], length, get_or, sym, ap, ◌∙◌, arith}
-use lib.ListN.{length-map}
+use Rattle.std.proofs.Common.{◌+◌, ◌<◌, ◌≤◌, length, sym, ap, arith}
 use Rattle.cases.specs.Meanings.{rules_of, options_of}
 use Rattle.cases.specs.Facts.Limits.{rule_out}
 use Rattle.layers.specs.Facts.Layered.{room_told}
-use Rattle.layers.specs.Opens.{open_room, opened, mark}
-use Rattle.layers.specs.Facts.Opens.{open_rules, rule_marked, rule_not_both}
+use Rattle.layers.specs.Opens.{open_room, opened}
+use Rattle.layers.specs.Facts.Opens.{open_rules, rule_not_both}
 use Rattle.layers.proofs.opened.OpenCase.rule_len.Goals as goal
-
-pub returns-then-r-rules : goal.returns-then-r-rules
-returns-then-r-rules g c =
-    let m = g.C.Case.meaning c.args.self.now.below in
-    let r = c.args.r in
-    let room = room_told open_room m c.options-options.ensures c.rules-rules.ensures c.if-not-has_room.ensures in
-    let h : r < length (rules_of m) = omega (arith, c.rules-rules.ensures) in
-    sym (ap length (rule_marked r m room h) ∙ length-map (get_or (rules_of m) r []) mark ∙ sym c.rule_len.ensures)
 
 pub returns-then-r-rules-2 : goal.returns-then-r-rules-2
 returns-then-r-rules-2 g c =

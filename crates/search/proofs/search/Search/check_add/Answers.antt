@@ -45,7 +45,7 @@ returns-then-len-ge-MOST_CONDITIONS g c =
     let cs = conditions_of c.args.self.now.tables.conditions in
     sym
     (done_add K p (stands K p c.args.self.now) (sym c.if-oversize.ensures) r (core.some Full)
-    (add_full (contents p) cs r (omega arith) (omega (arith, c.past_all.ensures, c.options.ensures, contents_options p, c.if-past_all-options.false)) (omega (arith, c.len.ensures.0, c.if-len-ge-MOST_CONDITIONS.true))))
+    (add_full (contents p) cs r (omega arith) (omega (arith, c.past_all.ensures, c.options.ensures, contents_options p, c.if-past_all-options.false)) (omega (arith, c.len.ensures.value, c.if-len-ge-MOST_CONDITIONS.true))))
 
 pub returns-else-len-ge-MOST_CONDITIONS : goal.returns-else-len-ge-MOST_CONDITIONS
 unfolding checked
@@ -56,4 +56,4 @@ returns-else-len-ge-MOST_CONDITIONS g c =
     let cs = conditions_of c.args.self.now.tables.conditions in
     sym
     (done_add K p (stands K p c.args.self.now) (sym c.if-oversize.ensures) r core.none
-    (add_fine (contents p) cs r (omega arith) (omega (arith, c.past_all.ensures, c.options.ensures, contents_options p, c.if-past_all-options.false)) (omega (arith, c.len.ensures.0, c.if-len-ge-MOST_CONDITIONS.false))))
+    (add_fine (contents p) cs r (omega arith) (omega (arith, c.past_all.ensures, c.options.ensures, contents_options p, c.if-past_all-options.false)) (omega (arith, c.len.ensures.value, c.if-len-ge-MOST_CONDITIONS.false))))

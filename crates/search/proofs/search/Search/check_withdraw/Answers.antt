@@ -20,7 +20,7 @@ returns-then-len-eq0 g c =
     let K = kind_of g.K.Charge in
     let p = g.P.Case.meaning c.args.self.now.pile in
     let cs = conditions_of c.args.self.now.tables.conditions in
-    sym (done_withdraw K p (stands K p c.args.self.now) (sym c.if-oversize.ensures) (core.some NothingToWithdraw) (withdraw_none cs (sym c.len.ensures.0 ∙ c.if-len-eq0.true)))
+    sym (done_withdraw K p (stands K p c.args.self.now) (sym c.if-oversize.ensures) (core.some NothingToWithdraw) (withdraw_none cs (sym c.len.ensures.value ∙ c.if-len-eq0.true)))
 
 pub returns-else-len-eq0 : goal.returns-else-len-eq0
 unfolding checked
@@ -28,4 +28,4 @@ returns-else-len-eq0 g c =
     let K = kind_of g.K.Charge in
     let p = g.P.Case.meaning c.args.self.now.pile in
     let cs = conditions_of c.args.self.now.tables.conditions in
-    sym (done_withdraw K p (stands K p c.args.self.now) (sym c.if-oversize.ensures) core.none (withdraw_some cs (λ e. c.if-len-eq0.false (c.len.ensures.0 ∙ e))))
+    sym (done_withdraw K p (stands K p c.args.self.now) (sym c.if-oversize.ensures) core.none (withdraw_some cs (λ e. c.if-len-eq0.false (c.len.ensures.value ∙ e))))

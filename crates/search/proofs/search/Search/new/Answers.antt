@@ -1,7 +1,7 @@
-use Rattle.std.proofs.Common.{[], length, None, refl, ap, arith}
+use Rattle.std.proofs.Common.{ℕ, List, [], length, None, refl, ap, ap₂, arith}
 use Rattle.charges.specs.Generic.{kind_of}
 use Rattle.charges.specs.Charges.{contents}
-use Rattle.calculus.specs.States.{fresh, restarted}
+use Rattle.calculus.specs.States.{State, fresh, restarted}
 use Rattle.calculus.specs.Piles.{after, calls_on}
 use Rattle.tables.specs.Learned.{rows_of}
 use Rattle.tables.proofs.Facts.{length-learned}
@@ -19,10 +19,10 @@ returns g c =
     let blank = c.new.ensures in
     record {
       history =
-          promised K g.met.K.Charge.laws p (g.P.Case.limits c.args.pile) [] _
+          promised K g.met.K.Charge.laws p (g.met.P.Case.limits c.args.pile) [] _
           (record {
-            state = ap (state K (contents p).options None) blank;
-            noted = λ j h. absurd (omega (arith, length-learned (rows_of tb.learned), ap (λ (x : Shape). length x.learned) blank, h));
+            state = ap₂ {C = State K} (λ (cs : List (List ℕ)) (x : Shape). state K (contents p).options cs None x) blank.conditions blank.work;
+            noted = λ j h. absurd (omega (arith, length-learned (rows_of tb.work.learned), ap (λ (x : Shape). length x.learned) blank.work, h));
           });
       pile = refl;
     }

@@ -5,7 +5,7 @@ use Rattle.charges.specs.Charges.{contents}
 use Rattle.calculus.specs.Steps.{closed, step}
 use Rattle.calculus.specs.Runs.{run_steps, steps_made}
 use Rattle.calculus.proofs.Calls.{run_closed, made_closed}
-use Rattle.steps.specs.States.{seen, NotedRight}
+use Rattle.steps.specs.States.{seen}
 use Rattle.steps.proofs.Staged.{step_closed}
 use Rattle.search.specs.Stands.{stands}
 use Rattle.search.proofs.Stepping.{run_more, made_more, run_done, made_done}
@@ -18,7 +18,7 @@ loop-made-init g c =
     let s = stands K p c.args.self.now in
     let e : c.args.budget ≡ c.args.budget - 0 = omega arith in
     let two = ap (λ (j : ℕ). steps_made K (contents p) j s) e in
-    (refl, omega arith, ap (λ (j : ℕ). run_steps K (contents p) j s) e, omega (arith, two), λ h. h)
+    (refl, ap (λ (j : ℕ). run_steps K (contents p) j s) e, omega (arith, two))
 
 pub loop-made-preserved : goal.loop-made-preserved
 loop-made-preserved g c =
@@ -36,10 +36,8 @@ loop-made-preserved g c =
     let moves : next ≡ step K m here =
     subst (λ x. seen K (M x) c.step.new.best c.step.new.tables ≡ step K (contents (M x)) (stands K (M x) c.loop-made.self)) same c.step.ensures.leaves in (
       same,
-      omega arith,
-      c.loop-made.invariant.2 ∙ run_more K m b k here next c.loop-made-test.true yet moves,
-      c.loop-made.invariant.3 ∙ made_more K m b k here next c.loop-made-test.true yet moves,
-      λ h. subst (λ x. NotedRight (M x) c.loop-made.self.tables → NotedRight (M x) c.step.new.tables) same c.step.ensures.notes (c.loop-made.invariant.4 h),
+      c.loop-made.invariant.1 ∙ run_more K m b k here next c.loop-made-test.true yet moves,
+      c.loop-made.invariant.2 ∙ made_more K m b k here next c.loop-made-test.true yet moves,
     )
 
 pub returns-then-not-step : goal.returns-then-not-step
@@ -58,9 +56,8 @@ returns-then-not-step g c =
     let stays : next ≡ here =
     subst (λ x. seen K (M x) c.step.new.best c.step.new.tables ≡ step K (contents (M x)) (stands K (M x) c.loop-made.self)) same c.step.ensures.leaves ∙ step_closed K m here shut in
     record {
-      answers = sym (c.loop-made.invariant.3 ∙ ap (λ (j : ℕ). k + j) (made_closed K m (b - k) here shut) ∙ omega arith);
-      leaves = stays ∙ sym (c.loop-made.invariant.2 ∙ run_closed K m (b - k) here shut);
-      notes = λ h. subst (λ x. NotedRight (M x) c.loop-made.self.tables → NotedRight (M x) c.step.new.tables) same c.step.ensures.notes (c.loop-made.invariant.4 h);
+      answers = sym (c.loop-made.invariant.2 ∙ ap (λ (j : ℕ). k + j) (made_closed K m (b - k) here shut) ∙ omega arith);
+      leaves = stays ∙ sym (c.loop-made.invariant.1 ∙ run_closed K m (b - k) here shut);
       pile = same;
     }
 
@@ -73,8 +70,7 @@ returns g c =
     let k = c.loop-made.made in
     let here = stands K p c.loop-made.self in
     record {
-      answers = sym (c.loop-made.invariant.3 ∙ ap (λ (j : ℕ). k + j) (made_done K m b k here (omega arith)) ∙ omega arith);
-      leaves = sym (c.loop-made.invariant.2 ∙ run_done K m b k here (omega arith));
-      notes = c.loop-made.invariant.4;
+      answers = sym (c.loop-made.invariant.2 ∙ ap (λ (j : ℕ). k + j) (made_done K m b k here (omega arith)) ∙ omega arith);
+      leaves = sym (c.loop-made.invariant.1 ∙ run_done K m b k here (omega arith));
       pile = c.loop-made.invariant.0;
     }

@@ -28,15 +28,14 @@ returns g c =
     let r = c.args.literals.now in
     let b = breaks s.best r in
     let old = c.forget_broken.new.self in
-    let few : 2 * n ≤ 128 = omega (arith, contents_options p, (g.P.Case.limits x.pile).few_options) in
+    let few : 2 * n ≤ 128 = omega (arith, contents_options p, (g.met.P.Case.limits x.pile).few_options) in
     let same = ap conditions_of c.forget_broken.ensures.holds in
     let fine : c.hold.result ≡ true = c.hold.ensures.answers ∙ ap (λ (cs : List (List ℕ)). can_hold cs r) same ∙ add_held (contents p) s.conditions r few c.requires in
     let more : conditions_of c.hold.new.self ≡ s.conditions ++ (r ∷ []) =
     c.hold.ensures.leaves ∙ ap (λ (y : Bool). cond y (conditions_of old.tables.conditions ++ (r ∷ [])) (conditions_of old.tables.conditions)) fine ∙ ap (λ (cs : List (List ℕ)). cs ++ (r ∷ [])) same in
     record {
       leaves =
-          ap (state K n old.best) c.restart.ensures.leaves ∙ ap (λ (cs : List (List ℕ)). restarted {K = K} cs (stands K p old).best (stands K p old).learned) more
+          ap (state K n (conditions_of c.hold.new.self) old.best) c.restart.ensures.leaves ∙ ap (λ (cs : List (List ℕ)). restarted {K = K} cs (stands K p old).best (stands K p old).learned) more
           ∙ ap (λ (y : State K). restarted {K = K} (s.conditions ++ (r ∷ [])) y.best y.learned) c.forget_broken.ensures.leaves ∙ begun s r b;
-      notes = c.restart.ensures.notes _;
       pile = c.forget_broken.ensures.pile;
     }

@@ -22,7 +22,7 @@ returns-in-Some g c =
     let K = kind_of g.K.Charge in
     let p = g.P.Case.meaning c.args.self.now.pile in
     let n = (contents p).options in
-    sym (ap (λ o. verdict_of (verdict_if true (best_seen K n o (member c.args.self.now.tables.choice)))) c.in-Some.is)
+    sym (ap (λ o. verdict_of (verdict_if true (best_seen K n o (member c.args.self.now.tables.work.choice)))) c.in-Some.is)
     ∙ ap (λ (b : Bool). verdict_of (verdict_if b (stands K p c.args.self.now).best)) c.if-not-is_closed.ensures
 
 pub returns-in-None : goal.returns-in-None
@@ -31,5 +31,5 @@ returns-in-None g c =
     let K = kind_of g.K.Charge in
     let p = g.P.Case.meaning c.args.self.now.pile in
     let n = (contents p).options in
-    sym (ap (λ o. verdict_of (verdict_if true (best_seen K n o (member c.args.self.now.tables.choice)))) c.in-None.is)
+    sym (ap (λ o. verdict_of (verdict_if true (best_seen K n o (member c.args.self.now.tables.work.choice)))) c.in-None.is)
     ∙ ap (λ (b : Bool). verdict_of (verdict_if b (stands K p c.args.self.now).best)) c.if-not-is_closed.ensures

@@ -1,29 +1,36 @@
-use Rattle.std.proofs.Common.{◌≡◌, ℕ, ◌<◌, Bool, not, length, get_or, sym, ap, ◌∙◌, arith}
-use Rattle.calculus.proofs.Loops.{first_here}
-use Rattle.tables.specs.declared.learned.Learned.{Learned}
-use Rattle.tables.specs.Rows.{Noted, no_row, nothing_noted}
+use Rattle.std.proofs.Common.{◌≡◌, ℕ, suc, ◌+◌, ◌<◌, ◌≤◌, rules, cond, true, false, not, ltb, List, [], ◌∷◌, map, take, length, get_or, Some, None, sym, refl, ap, ◌∙◌, ⊎_elim, one-add, arith}
+use borrow.Author.Tests.{tests}
+use Rattle.std.specs.Prelude.{unwrap_or}
+use Rattle.std.specs.List.{position_or_len}
+use Rattle.std.proofs.lemmas.Bool.{cases_lt, lt-ltb, le-ltb}
+use Rattle.std.proofs.lemmas.Iterator.{YieldsList-from_slice}
+use Rattle.std.proofs.lemmas.Iterator.Search.{position_from_yields_List}
+use Rattle.std.proofs.lemmas.List.Sums.{prefix_len-le-length}
+use Rattle.calculus.specs.Scans.{first}
+use Rattle.tables.specs.declared.learned.Row.{Row}
+use Rattle.tables.specs.Rows.{row_of, nothing_noted}
 use Rattle.tables.specs.Learned.{rows_of}
-use Rattle.tables.proofs.Facts.{len_rows}
-use Rattle.tables.proofs.Rows.{row_at, first_nowhere}
+use Rattle.std.proofs.lemmas.List.{length-take-le}
 use Rattle.tables.proofs.learned.Learned.first_free.Goals as goal
 
-free : Learned → ℕ → Bool
-free l j = not (get_or (rows_of l) j nothing_noted).reason
+-- the place of the first free row, or the length
+placed : (n : ℕ) (p : ℕ) → p ≤ n → unwrap_or (cond (ltb p n) (Some p) None) n ≡ p
+placed n p h =
+    ⊎_elim (λ (l : p < n). ap (λ b. unwrap_or (cond b (Some p) None) n) (lt-ltb p n l)) (λ (l : n ≤ p). ap (λ b. unwrap_or (cond b (Some p) None) n) (le-ltb p n l) ∙ omega arith) (cases_lt p n)
 
-read : (l : Learned) (j : ℕ) (b : Bool) → j < l.len → (get_or l.rows j no_row).reason ≡ b → free l j ≡ not b
-unfolding free
-read l j b h e = ap (λ (r : Noted). not r.reason) (row_at l j h) ∙ ap not e
-
-pub returns-then-not-self-j : goal.returns-then-not-self-j
-unfolding free
-returns-then-not-self-j c =
-    let s = c.args.self.now in
-    let e = len_rows s in
-    sym (first_here (length (rows_of s)) (free s) c.loop-j.j (omega arith) (λ q l. read s q _ (omega arith) (c.loop-j.invariant q l)) (read s c.loop-j.j _ (omega arith) c.if-not-self-j.true))
+first_place : (rs : List Row) → position_or_len (λ r. not r.reason) rs ≡ first (length (map row_of rs)) (λ j. not (get_or (map row_of rs) j nothing_noted).reason)
+unfolding first
+first_place [] = refl
+first_place (r ∷ rs) =
+    elim r.reason as (λ b. cond (not (not b)) (1 + position_or_len (λ a. not a.reason) rs) 0 ≡ cond (not b) 0 (suc (first (length (map row_of rs)) (λ j. not (get_or (map row_of rs) j nothing_noted).reason))))
+    [ true ↦ one-add _ ∙ ap suc (first_place rs) | false ↦ refl ]
 
 pub returns : goal.returns
-unfolding free
+unfolding rows_of
 returns c =
     let s = c.args.self.now in
-    let e = len_rows s in
-    sym (first_nowhere (length (rows_of s)) (free s) (λ q l. read s q _ (omega arith) (c.loop-j.invariant q (omega arith))) ∙ e)
+    let rs = take s.len s.rows in
+    let full : length rs ≡ s.len = omega (arith, length-take-le s.len s.rows (omega (arith, s.few, s.full))) in
+    let found = position_from_yields_List (λ (r : Row). not r.reason) _ _ c.position.result c.position.ensures.ran (YieldsList-from_slice rs c.iter.ensures.rest) (λ x b q k. search (rules, tests)) in
+    c.unwrap_or.ensures ∙ ap (λ o. unwrap_or o s.len) found ∙ ap (λ n. unwrap_or (cond (ltb (position_or_len (λ (r : Row). not r.reason) rs) (length rs)) (Some (position_or_len (λ (r : Row). not r.reason) rs)) None) n) (sym full)
+    ∙ placed (length rs) _ (prefix_len-le-length _ rs) ∙ first_place rs

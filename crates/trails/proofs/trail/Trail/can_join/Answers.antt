@@ -1,22 +1,24 @@
-use Rattle.std.proofs.Common.{◌≡◌, false, not, ltb, length, sym, ap, ◌∙◌, arith}
-use Rattle.std.proofs.lemmas.Bool.{le-ltb, lt-ltb, and_left}
-use Rattle.cases.specs.Literals.{complement}
-use Rattle.calculus.specs.Trails.{on}
-use Rattle.trails.specs.Trails.{listed}
+use Rattle.std.proofs.Common.{◌≡◌, ℕ, ◌<◌, ◌≤◌, Bool, sym, ap, ◌∙◌, ap₂, ⊎_elim, not, ◌&&◌, eqb, ltb, arith}
+use Rattle.std.proofs.lemmas.Bool.{lt-ltb, le-ltb, eq-eqb, ne_eqb, cases_lt}
 use Rattle.trails.proofs.Entries.{length-trail}
+use Rattle.arrayvec.specs.ArrayVec.{array_vec_len}
+use Rattle.literals.specs.Members.{member}
+use Rattle.trails.specs.declared.trail.Trail.{Trail}
+use Rattle.trails.specs.Trails.{listed, has_place}
 use Rattle.trails.proofs.trail.Trail.can_join.Goals as goal
 
-pub returns-then-self-ge-MOST_OPTIONS : goal.returns-then-self-ge-MOST_OPTIONS
-returns-then-self-ge-MOST_OPTIONS c =
-    let t = c.args.self.now in
-    sym (and_left (ltb (length (listed t)) 56) _ (le-ltb (length (listed t)) 56 (omega (arith, length-trail t.entries t.height))))
+below_full : (n : ℕ) → n ≤ 56 → ltb n 56 ≡ not (eqb n 56)
+below_full n h =
+    ⊎_elim (λ (l : n < 56). lt-ltb n 56 l ∙ sym (ap not (ne_eqb n 56 (λ e. omega arith)))) (λ (l : 56 ≤ n). le-ltb n 56 l ∙ sym (ap not (eq-eqb n 56 (omega arith)))) (cases_lt n 56)
 
-pub returns : goal.returns
-returns c =
-    let t = c.args.self.now in
-    let l = c.args.literal in
-    let short = lt-ltb (length (listed t)) 56 (omega (arith, length-trail t.entries t.height, c.if-self-ge-MOST_OPTIONS.false)) in
-    let small = lt-ltb l 128 c.if-literal-ge-SPAN.false in
-    let unset : on (listed t) l ≡ false = sym (t.told l) ∙ sym c.if-has.ensures in
-    let other : c.has-2.result ≡ on (listed t) (complement l) = c.has-2.ensures ∙ t.opposed l in
-    rw (short, small, unset) (ap not other)
+-- the test as the body makes it
+test : (t : Trail) (l : ℕ) → has_place (listed t) l ≡ (not (eqb (array_vec_len t.entries) 56) && (ltb l 128 && (not (member t.set l) && not (member t.against l))))
+test t l =
+    ap₂ (λ (a b : Bool). a && b) (ap (λ (n : ℕ). ltb n 56) (length-trail t.entries.items) ∙ below_full (array_vec_len t.entries) t.low)
+    (ap₂ (λ (a b : Bool). ltb l 128 && (not a && not b)) (sym (t.told l)) (sym (t.opposed l)))
+
+pub returns-then-not-has : goal.returns-then-not-has
+returns-then-not-has c = let e = test c.args.self.now c.args.literal in grind (arith, e)
+
+pub returns-else-not-has : goal.returns-else-not-has
+returns-else-not-has c = let e = test c.args.self.now c.args.literal in grind (arith, e)

@@ -1,21 +1,21 @@
-use Rattle.std.proofs.Common.{sym, ◌∙◌, arith}
+use Rattle.std.proofs.Common.{length, ap, ◌∙◌, arith}
 use Rattle.cases.specs.Literals.{complement}
+use Rattle.trails.specs.Entries.{trail_of}
 use Rattle.trails.proofs.Entries.{trail_none}
-use Rattle.trails.proofs.Held.{on_empty}
+use Rattle.trails.proofs.Held.{on_none, levelled_none, unset_none, not_false_none}
 use Rattle.trails.proofs.trail.Trail.clear.Goals as goal
 
 pub invariant_of-self : goal.invariant_of-self
 invariant_of-self c =
-    let es = c.args.self.now.entries in
+    let none = c.clear.ensures in
     record {
-      low = omega arith;
-      places = c.args.self.now.places;
-      told = λ x. c.empty-self.ensures x ∙ sym (on_empty es x);
-      opposed = λ x. c.empty-self-2.ensures x ∙ sym (on_empty es (complement x));
-      levelled = λ k h. absurd (omega arith);
-      was_unset = λ k h. absurd (omega arith);
-      was_not_false = λ k h. absurd (omega arith);
+      low = omega (arith, ap length none);
+      told = λ x. c.empty-self.ensures x ∙ on_none _ none x;
+      opposed = λ x. c.empty-self-2.ensures x ∙ on_none _ none (complement x);
+      levelled = levelled_none _ none;
+      was_unset = unset_none _ none;
+      was_not_false = not_false_none _ none;
     }
 
 pub returns : goal.returns
-returns c = trail_none c.args.self.now.entries
+returns c = ap trail_of c.clear.ensures ∙ trail_none

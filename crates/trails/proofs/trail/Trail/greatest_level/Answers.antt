@@ -1,49 +1,45 @@
-use Rattle.std.proofs.Common.{◌≡◌, ◌-◌, true, false, ◌∷◌, sym, ap, ◌∙◌, arith}
-use Rattle.std.proofs.lemmas.Bool.{cond-true, cond-false}
+use Rattle.std.proofs.Common.{◌≡◌, ℕ, rules, cond, true, false, List, [], ◌∷◌, map, reverse, Some, None, Option, MatchOption, Bor, refl, ap, ◌∙◌}
+use borrow.Author.Tests.{tests}
+use Rattle.std.specs.List.{find}
+use Rattle.std.specs.Option.{option_map}
+use Rattle.std.specs.Slice.Iter.{iter_rest}
+use Rattle.std.proofs.lemmas.Iterator.Adapters.{YieldsList-from_rev_slice}
+use Rattle.std.proofs.lemmas.Iterator.Search.{find_from_yields_List}
 use Rattle.cases.specs.Literals.{Literals, complement}
-use Rattle.calculus.specs.Trails as calculus
 use Rattle.literals.specs.Members.{member}
 use Rattle.trails.specs.declared.entry.Entry.{Entry}
-use Rattle.trails.specs.Entries.{entry_of, entry_at, trail_of}
+use Rattle.trails.specs.Entries.{entry_of, trail_of}
 use Rattle.trails.specs.Trails.{listed}
-use Rattle.trails.proofs.Entries.{trail_empty, trail_top}
+use Rattle.literals.proofs.Options.{at_value}
 use Rattle.trails.proofs.Facts.{levelled, apart}
 use Rattle.trails.proofs.Levels.{newest, newest_is}
 use Rattle.trails.proofs.trail.Trail.greatest_level.Goals as goal
 
-here : (S : Literals) (e : calculus.Entry) (t : calculus.Trail) → S (complement e.literal) ≡ true → newest S (e ∷ t) ≡ e.level
-here S e t h = cond-true (S (complement e.literal)) e.level (newest S t) h
+level_or : Option Entry → ℕ
+level_or None = 0
+level_or (Some e) = e.level
 
-not_here : (S : Literals) (e : calculus.Entry) (t : calculus.Trail) → S (complement e.literal) ≡ false → newest S (e ∷ t) ≡ newest S t
-not_here S e t h = cond-false (S (complement e.literal)) e.level (newest S t) h
+newest_found : (S : Literals) (es : List Entry) → level_or (find (λ e. S (complement e.literal)) es) ≡ newest S (map entry_of es)
+unfolding level_or
+newest_found S [] = refl
+newest_found S (e ∷ es) =
+    elim (S (complement e.literal)) as (λ b. level_or (cond b (Some e) (find (λ a. S (complement a.literal)) es)) ≡ cond b e.level (newest S (map entry_of es))) [ true ↦ refl | false ↦ newest_found S es ]
 
-pub returns-then-has : goal.returns-then-has
-returns-then-has c =
-    let t = c.args.self.now in
-    let es = t.entries in
-    let n = c.loop-height.height in
-    let S = member c.args.set.now in
-    let e = entry_at es (n - 1) in
-    let hit : S (complement e.literal) ≡ true = sym (c.if-has.ensures ∙ ap S (c.opposite.ensures ∙ ap (λ (z : Entry). complement z.literal) c.at-e.ensures)) in
-    ap (λ (z : Entry). z.level) c.at-e.ensures
-    ∙ sym (ap (newest S) (trail_top es n c.loop-height-test.true) ∙ here S (entry_of e) (trail_of es (n - 1)) hit)
-    ∙ c.loop-height.invariant.1 ∙ newest_is S (listed t) (levelled t) (apart t)
+answered : (o : Option (Bor Entry)) (r : ℕ) → MatchOption o (r ≡ 0) (λ e. r ≡ e.now.level) → r ≡ level_or (option_map (λ e. e.now) o)
+unfolding level_or
+answered None r h = h
+answered (Some e) r h = h
 
-pub loop-height-preserved : goal.loop-height-preserved
-loop-height-preserved c =
-    let t = c.args.self.now in
-    let es = t.entries in
-    let n = c.loop-height.height in
-    let S = member c.args.set.now in
-    let e = entry_at es (n - 1) in
-    let miss : S (complement e.literal) ≡ false = sym (c.if-has.ensures ∙ ap S (c.opposite.ensures ∙ ap (λ (z : Entry). complement z.literal) c.at-e.ensures)) in (
-      omega (arith, c.loop-height.invariant.0),
-      sym (ap (newest S) (trail_top es n c.loop-height-test.true) ∙ not_here S (entry_of e) (trail_of es (n - 1)) miss) ∙ c.loop-height.invariant.1,
-    )
+listed_newest : (S : Literals) (es : List Entry) (r : ℕ) → r ≡ newest S (map entry_of (reverse es)) → r ≡ newest S (trail_of es)
+unfolding trail_of
+listed_newest S es r h = h
 
 pub returns : goal.returns
 returns c =
     let t = c.args.self.now in
     let S = member c.args.set.now in
-    let none : c.loop-height.height ≡ 0 = omega arith in
-    sym (ap (newest S) (trail_empty t.entries c.loop-height.height none)) ∙ c.loop-height.invariant.1 ∙ newest_is S (listed t) (levelled t) (apart t)
+    let found = find_from_yields_List (λ e. S (complement e.literal)) _ _ c.find.result c.find.ensures.ran
+    (YieldsList-from_rev_slice t.entries.items (ap iter_rest c.rev.ensures.source ∙ c.iter.ensures.rest ∙ c.deref.ensures.0)) (λ x b q k. search (rules, tests))
+    in
+    listed_newest S t.entries.items _ (answered c.find.result _ (at_value _ (λ e. c.map_or.result ≡ e.now.level) c.find.result (λ x k. search (rules, tests)) c.map_or.ensures) ∙ ap level_or found ∙ newest_found S (reverse t.entries.items))
+    ∙ newest_is S (listed t) (levelled t) (apart t)

@@ -1,28 +1,16 @@
-use Rattle.std.proofs.Common.{◌≡◌, ℕ, suc, ◌-◌, ◌<◌, sym, ap, ◌∙◌, arith}
-use Rattle.calculus.specs.Trails as calculus
-use Rattle.trails.specs.declared.entry.Entry.{Entry}
-use Rattle.trails.specs.Entries.{trail_of}
+use Rattle.std.proofs.Common.{◌≡◌, rules, arith}
+use borrow.Author.Tests.{tests}
 use Rattle.trails.specs.Trails.{listed}
-use Rattle.trails.proofs.Entries.{trail_empty}
-use Rattle.trails.proofs.Facts.{levelled, few}
-use Rattle.trails.proofs.Levels.{level_none, level_length}
+use Rattle.literals.proofs.Options.{at_value}
+use Rattle.trails.proofs.Entries.{level_top}
+use Rattle.trails.proofs.Facts.{few}
+use Rattle.trails.proofs.Levels.{level_length}
 use Rattle.trails.proofs.trail.Trail.level.Goals as goal
 
-pub returns-then-self-eq0 : goal.returns-then-self-eq0
-returns-then-self-eq0 c =
-    let t = c.args.self.now in
-    record {
-      answers = sym (ap calculus.level (trail_empty t.entries t.height c.if-self-eq0.true) ∙ level_none);
-      right = levelled t;
-      within = omega arith;
-    }
+pub returns-clause-answers : goal.returns-clause-answers
+returns-clause-answers c = level_top _ _ _ c.args.self.now.levelled c.top.ensures (at_value _ (λ e. c.map_or.result ≡ e.level) c.top.result (λ x k. search (rules, tests)) c.map_or.ensures)
 
-pub returns : goal.returns
-returns c =
+pub returns-clause-within : goal.returns-clause-within
+returns-clause-within c =
     let t = c.args.self.now in
-    let positive : 0 < t.height = omega arith in
-    let last : suc (t.height - 1) ≡ t.height = omega arith in
-    let is : c.at.result.level ≡ calculus.level (listed t) =
-    ap (λ (e : Entry). e.level) c.at.ensures ∙ t.levelled (t.height - 1) (omega arith) ∙ ap (λ (k : ℕ). calculus.level (trail_of t.entries k)) last
-    in
-    record { answers = is; right = levelled t; within = omega (arith, is, level_length (listed t), few t) }
+    omega (arith, level_top _ _ _ t.levelled c.top.ensures (at_value _ (λ e. c.map_or.result ≡ e.level) c.top.result (λ x k. search (rules, tests)) c.map_or.ensures), level_length (listed t), few t)

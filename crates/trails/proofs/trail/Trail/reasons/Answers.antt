@@ -1,24 +1,31 @@
-use Rattle.std.proofs.Common.{◌≡◌, ℕ, zero, suc, ◌+◌, Bool, false, ◌||◌, get_or, replicate, sym, refl, ap, ◌∙◌, ap₂, arith}
-use Rattle.calculus.specs.Learned.{is_place}
+use Rattle.std.proofs.Common.{◌+◌, Bool, false, ◌||◌, sym, refl, ap, ◌∙◌, ap₂, arith}
+use Rattle.std.proofs.lemmas.List.{get_or-replicate, take_all}
+use Rattle.calculus.specs.Learned.{is_place, is_reason}
 use Rattle.trails.specs.declared.entry.Entry.{Entry}
-use Rattle.trails.specs.Entries.{reason_of}
+use Rattle.trails.specs.Entries.{reason_of, trail_of}
 use Rattle.trails.proofs.Entries.{is_reason_none, is_reason_more}
 use Rattle.trails.proofs.trail.Trail.reasons.Goals as goal
 
-all_false : (n j : ℕ) → get_or (replicate n false) j false ≡ false
-all_false zero j = refl
-all_false (suc n) zero = refl
-all_false (suc n) (suc j) = all_false n j
+pub loop-e-init : goal.loop-e-init
+loop-e-init c = record { full = refl; tells = λ j h. get_or-replicate 64 j false false h ∙ sym (is_reason_none (c.args.base + j)) }
 
-pub loop-i-init : goal.loop-i-init
-loop-i-init c = (refl, λ j h. all_false 64 j ∙ sym (is_reason_none c.args.self.now.entries (c.args.base + j)))
+pub loop-e-preserved : goal.loop-e-preserved
+loop-e-preserved c =
+    let es = c.as_slice-e-items.result.now in
+    record {
+      full = omega (arith, c.note.auto.named, c.loop-e.invariant.full);
+      tells = λ j h.
+          let b = c.args.base in
+          c.note.ensures j (omega (arith, c.loop-e.invariant.full))
+          ∙ ap₂ (λ (x y : Bool). x || y) (ap (λ (e : Entry). is_place (reason_of e.reason) (b + j)) c.e-item.is) (c.loop-e.invariant.tells j h)
+          ∙ sym (is_reason_more es c.loop-e.e-index (b + j) c.e-item.result c.loop-e-test.true);
+    }
 
-pub loop-i-preserved : goal.loop-i-preserved
-loop-i-preserved c = (
-  omega (arith, c.note.auto.named, c.loop-i.invariant.0),
-  λ j h.
-      let b = c.args.base in
-      c.note.ensures j (omega (arith, c.loop-i.invariant.0))
-      ∙ ap₂ (λ (x y : Bool). x || y) (ap (λ (e : Entry). is_place (reason_of e.reason) (b + j)) c.at.ensures) (c.loop-i.invariant.1 j h)
-      ∙ sym (is_reason_more c.args.self.now.entries c.loop-i.i (b + j)),
-)
+pub returns : goal.returns
+returns c =
+    let is = c.as_slice-e-items.ensures.value in
+    record {
+      full = c.loop-e.invariant.full;
+      tells = λ j h. c.loop-e.invariant.tells j h
+          ∙ ap (λ fs. is_reason (trail_of fs) (c.args.base + j)) (take_all c.loop-e.e-index _ (omega arith) ∙ is);
+    }

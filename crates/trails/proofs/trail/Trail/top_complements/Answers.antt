@@ -1,76 +1,74 @@
-use Rattle.std.proofs.Common.{◌≡◌, ℕ, ◌-◌, Bool, true, false, ◌&&◌, ◌||◌, eqb, ltb, ◌∷◌, sym, refl, ap, ◌∙◌, arith}
-use Rattle.std.proofs.lemmas.Bool.{eq-eqb, ne_eqb}
+use Rattle.std.proofs.Common.{◌≡◌, ℕ, rules, cond, Bool, true, false, ◌&&◌, ◌||◌, eqb, ltb, List, [], ◌∷◌, map, reverse, None, Option, Bor, sym, refl, ap, ◌∙◌, arith}
+use borrow.Author.Tests.{tests}
+use Rattle.std.specs.List.{list_any, take_while}
+use Rattle.std.specs.Iterator.{Yields}
+use Rattle.std.specs.Slice.Iter.{iter_rest}
+use Rattle.std.proofs.lemmas.List.Folds.{list_any-append}
+use Rattle.std.proofs.lemmas.List.Sums.{take_while-cons}
+use Rattle.std.proofs.lemmas.Iterator.{YieldsList}
+use Rattle.std.proofs.lemmas.Iterator.Adapters.{YieldsList-from_rev_slice}
+use Rattle.std.proofs.lemmas.Iterator.Search.{YieldsList-from_take_while}
+use Rattle.std.proofs.lemmas.Iterator.Consumers.{YieldsList-at, YieldsList-end}
 use Rattle.cases.specs.Literals.{complement}
-use Rattle.calculus.specs.Trails as calculus
 use Rattle.literals.specs.Members.{member}
 use Rattle.trails.specs.declared.entry.Entry.{Entry}
-use Rattle.trails.specs.Entries.{entry_of, entry_at, trail_of}
-use Rattle.trails.specs.declared.trail.Trail.{Trail}
+use Rattle.trails.specs.Entries.{entry_of, trail_of}
 use Rattle.trails.specs.Trails.{listed}
-use Rattle.trails.proofs.Entries.{trail_empty, trail_top}
-use Rattle.trails.proofs.Facts.{levelled}
 use Rattle.trails.proofs.Held.{has_complement_bit}
 use Rattle.trails.proofs.Levels.{block, block_is}
 use Rattle.trails.proofs.trail.Trail.top_complements.Goals as goal
 
-or_none : (b : Bool) → b ≡ (b || false)
-or_none true = refl
-or_none false = refl
+or_turn : (a b : Bool) → (a || b) ≡ (b || (a || false))
+or_turn true true = refl
+or_turn true false = refl
+or_turn false true = refl
+or_turn false false = refl
 
-or_turn : (a b d : Bool) → ((a || b) || d) ≡ (b || (a || d))
-or_turn true true d = refl
-or_turn true false d = refl
-or_turn false b d = refl
+any_lent : (p : Entry → Bool) (es : List (Bor Entry)) → list_any (λ e. p e.now) es ≡ list_any p (map (λ e. e.now) es)
+any_lent p [] = refl
+any_lent p (e ∷ es) = ap (λ b. p e.now || b) (any_lent p es)
 
-past : (k : ℕ) (e : calculus.Entry) (t : calculus.Trail) (x : ℕ) → (e.level ≡ k → ⊥) → block k (e ∷ t) x ≡ false
-past k e t x h = rw (ne_eqb e.level k h)
+-- the newest entries that have a level
+block_any : (k x : ℕ) (es : List Entry) → list_any (λ e. eqb e.literal (complement x)) (take_while (λ e. eqb e.level k) es) ≡ block k (map entry_of es) x
+block_any k x [] = refl
+block_any k x (e ∷ es) =
+    ap (list_any (λ a. eqb a.literal (complement x))) (take_while-cons (λ a. eqb a.level k) e es)
+    ∙ elim (eqb e.level k) as (λ b. list_any (λ a. eqb a.literal (complement x)) (cond b (e ∷ take_while (λ a. eqb a.level k) es) []) ≡ (b && (eqb e.literal (complement x) || block k (map entry_of es) x)))
+    [ true ↦ ap (λ b. eqb e.literal (complement x) || b) (block_any k x es) | false ↦ refl ]
 
-inside : (k : ℕ) (e : calculus.Entry) (t : calculus.Trail) (x : ℕ) → e.level ≡ k → block k (e ∷ t) x ≡ (eqb e.literal (complement x) || block k t x)
-inside k e t x h = rw (eq-eqb e.level k h)
+block_trail : (k x : ℕ) (es : List Entry) → block k (map entry_of (reverse es)) x ≡ block k (trail_of es) x
+unfolding trail_of
+block_trail k x es = refl
 
--- what the whole block is
-whole : (t : Trail) (k x : ℕ) → k ≡ calculus.level (listed t)
-    → block k (listed t) x ≡ (calculus.on (listed t) (complement x) && eqb (calculus.level_of (listed t) (complement x)) (calculus.level (listed t)))
-whole t k x h =
-    ap (λ (j : ℕ). block j (listed t) x) h ∙ block_is (calculus.level (listed t)) (listed t) x (levelled t) (omega arith)
+-- `YieldsList-end`, which learns from the run which chain it is
+all_yielded : {S A B : Type 0} {steps : S → Option A → S → Type 0} {v : A → B} {s : S} {all : List B} → (xs : List A) (t : S) → Yields steps s xs t → (r : Option A) (u : S) → r ≡ None → steps t r u → YieldsList steps v s all → map v xs ≡ all
+all_yielded xs t y r u e h road = (YieldsList-end road xs t y r u e h).0
 
-pub returns-then-e-level : goal.returns-then-e-level
-returns-then-e-level c x =
-    let t = c.args.self.now in
-    let es = t.entries in
-    let n = c.loop-height.height in
-    let k = c.level-level.result in
-    let e = entry_at es (n - 1) in
-    let other : e.level ≡ k → ⊥ = λ z. c.if-e-level.true (ap (λ (a : Entry). a.level) c.at-e.ensures ∙ z) in
-    or_none (member c.loop-height.set x)
-    ∙ ap (λ (b : Bool). member c.loop-height.set x || b) (sym (ap (λ (r : calculus.Trail). block k r x) (trail_top es n c.loop-height-test.true) ∙ past k (entry_of e) (trail_of es (n - 1)) x other))
-    ∙ c.loop-height.invariant.1 x ∙ whole t k x c.level-level.ensures.answers
+pub loop-e-init : goal.loop-e-init
+loop-e-init c = c.empty-set.ensures
 
-pub loop-height-preserved : goal.loop-height-preserved
-loop-height-preserved c =
-    let t = c.args.self.now in
-    let es = t.entries in
-    let n = c.loop-height.height in
-    let k = c.level-level.result in
-    let e = entry_at es (n - 1) in
-    let same : e.level ≡ k = sym (ap (λ (a : Entry). a.level) c.at-e.ensures) ∙ c.if-e-level.false in
-    let is : c.opposite.result ≡ complement e.literal = c.opposite.ensures ∙ ap (λ (a : Entry). complement a.literal) c.at-e.ensures in (
-      omega (arith, c.loop-height.invariant.0),
-      λ x.
-          let old = member c.loop-height.set x in
-          let rest = block k (trail_of es (n - 1)) x in
-          ap (λ (b : Bool). b || rest)
-          (c.insert.ensures x ∙ ap (λ (b : Bool). b || old) (ap (λ (z : ℕ). eqb x z && ltb x 128) is ∙ has_complement_bit x e.literal e.small))
-          ∙ or_turn (eqb e.literal (complement x)) old rest
-          ∙ ap (λ (b : Bool). old || b) (sym (ap (λ (r : calculus.Trail). block k r x) (trail_top es n c.loop-height-test.true) ∙ inside k (entry_of e) (trail_of es (n - 1)) x same))
-          ∙ c.loop-height.invariant.1 x,
-    )
+pub loop-e-preserved : goal.loop-e-preserved
+loop-e-preserved c x =
+    let e = c.in-Some.e.now in
+    let old = member c.loop-e.set x in
+    c.insert.ensures x
+    ∙ ap (λ (b : Bool). b || old) (ap (λ (z : ℕ). eqb x z && ltb x 128) c.opposite.ensures ∙ has_complement_bit x e.literal e.small)
+    ∙ or_turn (eqb e.literal (complement x)) old
+    ∙ ap (λ (b : Bool). b || (eqb e.literal (complement x) || false)) (c.loop-e.invariant x)
+    ∙ sym (list_any-append (λ a. eqb a.now.literal (complement x)) c.loop-e.yielded (c.in-Some.e ∷ []))
 
 pub returns : goal.returns
 returns c x =
     let t = c.args.self.now in
+    let es = t.entries.items in
     let k = c.level-level.result in
-    let none : c.loop-height.height ≡ 0 = omega arith in
-    or_none (member c.loop-height.set x)
-    ∙ ap (λ (b : Bool). member c.loop-height.set x || b) (sym (ap (λ (r : calculus.Trail). block k r x) (trail_empty t.entries c.loop-height.height none)))
-    ∙ c.loop-height.invariant.1 x ∙ whole t k x c.level-level.ensures.answers
+    let p : Entry → Bool = λ e. eqb e.literal (complement x) in
+    let end = all_yielded c.loop-e.yielded _ c.loop-e.yielded_by _ _ c.in-None.is c.next.ensures.steps
+    (YieldsList-at c.into_iter-e-iterator.ensures.into_iter_gives
+    (YieldsList-from_take_while _ (λ (e : Entry). eqb e.level k)
+    (YieldsList-from_rev_slice es (ap (λ s. iter_rest s.iter) c.take_while-e-items.ensures.source ∙ ap iter_rest c.rev.ensures.source ∙ c.iter.ensures.rest ∙ c.deref.ensures.0))
+    c.take_while-e-items.ensures.closure c.take_while-e-items.ensures.done (λ a b q h. search (rules, tests))))
+    in
+    c.loop-e.invariant x ∙ any_lent p c.loop-e.yielded ∙ ap (list_any p) end ∙ block_any k x (reverse es) ∙ block_trail k x es
+    ∙ ap (λ (j : ℕ). block j (listed t) x) c.level-level.ensures.answers
+    ∙ block_is _ (listed t) x t.levelled (omega arith)

@@ -24,13 +24,15 @@ pub returns-then-place-base-2 : goal.returns-then-place-base-2
 unfolding is_place
 returns-then-place-base-2 c j h =
     let xs = c.args.named.now in
-    noted xs c.in-Forced.place c.args.base j c.if-place-base.true c.if-place-base-2.true
+    noted xs c.from-place.result c.args.base j c.if-place-base.true c.if-place-base-2.true
+    ∙ ap (λ (p : ℕ). eqb p (c.args.base + j) || get_or xs j false) c.from-place.ensures
     ∙ sym (ap (λ (r : Reason). is_place (reason_of r) (c.args.base + j) || get_or xs j false) c.in-Forced.is)
 
 pub returns-else-place-base : goal.returns-else-place-base
 unfolding is_place
 returns-else-place-base c j h =
     let xs = c.args.named.now in
+    let is = c.from-place.ensures in
     let other : c.in-Forced.place ≡ c.args.base + j → ⊥ =
     elim c.else-place-base.branch [
       | else-place-base-via-then-place-base+else-place-base-2 w ↦ λ z. omega (arith, w.if-place-base-2.false)

@@ -1,19 +1,11 @@
-use Rattle.std.proofs.Common.{max, sym, refl, ap, ◌∙◌, ap₂, arith, length-set}
-use Rattle.wishes.specs.Wishes.{wish_reach, wish_for}
-use Rattle.wishes.specs.Facts.WishLayers.{wishes_of, first_wishes_more, wish_reach_more}
+use Rattle.std.proofs.Common.{List, ap, ◌∙◌}
+use Rattle.cases.specs.Meanings.{is_oversize}
+use Rattle.wishes.specs.Wishes.{Wish, wishing}
+use Rattle.wishes.specs.Facts.WishLayers.{wishes_more}
 use Rattle.wishes.proofs.state.Wishes.hold.Goals as goal
 
-pub invariant_of-self-2 : goal.invariant_of-self-2
-invariant_of-self-2 g c =
+pub invariant_of-self-clause-fits : goal.invariant_of-self-clause-fits
+invariant_of-self-clause-fits g c =
     let s = c.args.self.now in
-    let more = first_wishes_more s.wishes s.held _ c.args.wish.now (omega arith) c.of.ensures in
-    record {
-      full = length-set s.wishes s.held _ ∙ s.full;
-      few = omega arith;
-      reached = c.larger-self.ensures ∙ ap₂ max s.reached c.past_all.ensures ∙ sym (ap wish_reach more ∙ wish_reach_more (wishes_of s) (wish_for c.args.wish.now c.args.amount));
-    }
-
-pub returns : goal.returns
-returns g c =
-    let s = c.args.self.now in
-    record { adds = first_wishes_more s.wishes s.held _ c.args.wish.now (omega arith) c.of.ensures; below = refl }
+    let more = wishes_more s.wishes c.push.new.self _ c.args.wish.now c.push.ensures.items c.of.ensures in
+    λ _. ap (λ (ws : List Wish). is_oversize (wishing ws (g.C.Case.meaning s.below))) more ∙ c.requires.fits
