@@ -4,7 +4,6 @@ use lib.ListN.{length-map}
 use Rattle.std.proofs.lemmas.List.{get_or-map}
 use Rattle.cases.specs.Choices.{sets, keeps, keeps_all}
 use Rattle.cases.specs.Meanings.{Meaning, is_oversize, rules_of}
-use Rattle.cases.specs.Limits.{Limited}
 use Rattle.groups.specs.Groups.{pair_rules, group_rules, grouped}
 use Rattle.layers.specs.Apart.{not_together}
 use Rattle.groups.specs.Facts.Groups.{group_rules_told}
@@ -46,8 +45,8 @@ module _ (c : List Bool) where
   groups_keep [] h = refl
   groups_keep (g ∷ gs) h = keeps_both (sets c) (pair_rules g) (group_rules gs) (group_keeps g (h 0 (omega arith))) (groups_keep gs (λ i l. h (suc i) (omega arith)))
 
-pub groups_hold : (gs : List (List ℕ)) (m : Meaning) → Limited m → is_oversize (grouped gs m) ≡ false → GroupsHold gs m
-groups_hold gs m limits fine =
+pub groups_hold : (gs : List (List ℕ)) (m : Meaning) → is_oversize (grouped gs m) ≡ false → GroupsHold gs m
+groups_hold gs m fine =
     let told = group_rules_told gs m fine in
     record {
       kept = λ c h.
