@@ -1,9 +1,9 @@
 // The group layer as a case, and how groups are added.
-ghost use Rattle.std.specs.Prelude.{◌≡◌, ◌<◌, ◌≤◌, false, [], ◌∷◌, ◌++◌, length, MatchResult, OnOk, slice_index_or};
-ghost use Rattle.cases.specs.Meanings.{is_oversize};
+ghost use Rattle.std.specs.Prelude.{◌≡◌, ◌+◌, ◌<◌, ◌≤◌, false, [], ◌∷◌, ◌++◌, length, nat_lt, MatchResult, OnOk, slice_index_or};
+ghost use Rattle.cases.specs.Meanings.{is_oversize, rules_of};
 ghost use Rattle.layers.specs.Rows.{past_all};
 ghost use Rattle.arrayvec.specs.ArrayVec.{array_vec_len};
-ghost use Rattle.groups.specs.Groups.{grouped, group_rules, group_check};
+ghost use Rattle.groups.specs.Groups.{grouped, group_rules, pair_rules, group_check};
 ghost use Rattle.groups.specs.Facts.Groups.{limited_grouped};
 ghost use Rattle.groups.specs.Facts.GroupLayers.{groups_of};
 
@@ -43,7 +43,7 @@ impl<C: Case> Groups<C> {
 
     // Adds a group: of its options no two are to be on.
     // `below` is an effect of the call and no fact of a value, so it is a clause here and in `hold`, and no invariant.
-    #[tactic(auto, using(crate::proofs::GroupChecks::still_sound))]
+    #[tactic(auto, using(crate::proofs::GroupChecks::checked_sound))]
     pub fn add(&mut self, options: &[u8]) -> Result<(), Refusal>
         ensures answers { result ≡ group_check (groups_of self.old) (C.Case.meaning self.old.below) options.now }
         ensures adds { MatchResult result (λ _. groups_of self.new ≡ groups_of self.old ++ options.now ∷ []) (λ _. self.new ≡ self.old) }
@@ -53,6 +53,14 @@ impl<C: Case> Groups<C> {
         self.check(options)?;
         self.hold(options);
         Ok(())
+    }
+
+    // Whether one group more would bring too many rules.
+    fn overfills(&self, options: &[u8]) -> bool
+        requires { length options.now ≤ 16 }
+        ensures { result ≡ nat_lt 512 (length (rules_of (grouped (groups_of self.now) (C.Case.meaning self.now.below))) + length (pair_rules options.now)) }
+    {
+        self.rules() + pair_count(options.len()) > MOST_RULES
     }
 
     fn check(&self, options: &[u8]) -> Result<(), Refusal>
@@ -68,7 +76,7 @@ impl<C: Case> Groups<C> {
             Err(Refusal::NotRising)
         } else if self.groups.is_full() {
             Err(Refusal::Full)
-        } else if self.rules() + pair_count(options.len()) > MOST_RULES {
+        } else if self.overfills(options) {
             Err(Refusal::TooLarge)
         } else {
             Ok(())

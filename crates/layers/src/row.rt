@@ -1,16 +1,17 @@
 // A short list of literals or options.
-ghost use Rattle.std.specs.Prelude.{◌≡◌, ◌≤◌};
+ghost use Rattle.std.specs.Prelude.{◌≡◌, ◌≤◌, length};
 ghost use Rattle.layers.specs.Rows.{past_all};
-ghost use Rattle.arrayvec.specs.ArrayVec.{array_vec_len};
+ghost use Rattle.shortlists.specs.ShortLists.{items_in};
 
-use arrayvec::ArrayVec;
+use shortlists::short_list::ShortList;
 
-#[derive(Drop)]
 pub struct Row {
-    items: ArrayVec<u8, 16>,
+    items: ShortList<u8, 16>,
     // a clause sees the items and not how many fit, so this says it
-    ghost short: { array_vec_len items ≤ 16 },
-    ghost small: { past_all items.items ≤ 128 },
+    ghost short: { length (items_in items) ≤ 16 },
+    ghost small: { past_all (items_in items) ≤ 128 },
 }
 
 mod reads;
+
+impl Copy for Row {}

@@ -38,9 +38,12 @@ impl<P: Case, K: Charge> Search<P, K> {
     pub(crate) fn breaks(&self, literals: &[u8]) -> bool
         ensures { result ≡ breaks_rule (best_seen (kind_of K.Charge) (contents (P.Case.meaning self.now.pile)).options self.now.best (member self.now.tables.work.choice)) literals.now }
     {
-        let n = self.pile.options();
-        let choice = chosen(&self.tables.work.choice);
-        self.best.is_some() && !sets_one(&choice[..n], literals)
+        self.best.is_some()
+            && {
+                let n = self.pile.options();
+                let choice = chosen(&self.tables.work.choice);
+                !sets_one(&choice[..n], literals)
+            }
     }
 
     // What is wrong with adding a condition, the first thing in the order of checks.

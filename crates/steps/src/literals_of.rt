@@ -33,7 +33,7 @@ pub fn live_literals<P: Case>(pile: &P, trail: &Trail) -> LiteralSet
 pub fn trail_charge<P: Case, K: Charge>(pile: &P, trail: &Trail) -> K
     ensures { result ≡ charge (kind_of K.Charge) (contents (P.Case.meaning pile.now)) (on (listed trail.now)) }
 {
-    // a buffer with its length: `list` is public and stays, and an ArrayVec would ask for a second function that says the same
+    // a buffer with its length: `list` is public and stays, and a list of its own would ask for a second function that says the same
     let mut list = [0u8; 56];
     let len = trail.list(&mut list);
     charge_of(pile, &list[0..len])

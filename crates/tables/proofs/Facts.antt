@@ -1,11 +1,10 @@
 -- How long the tables are, and what a mark, a note, a removal and one row more leave of the learned rows; all from the definitions.
-use Rattle.std.proofs.Common.{ap₂, ◌≡◌, ℕ, zero, suc, ◌-◌, ◌<◌, ◌≤◌, Bool, false, List, [], ◌∷◌, ◌++◌, map, length, get_or, take, drop, refl, ap, ◌∙◌, not-suc-le-zero, arith}
-use Rattle.std.specs.List.{AllZip}
+use Rattle.std.proofs.Common.{◌≡◌, ℕ, zero, suc, ◌-◌, ◌<◌, ◌≤◌, Bool, false, List, [], ◌∷◌, ◌++◌, map, length, get_or, take, drop, refl, ap, ◌∙◌, not-suc-le-zero, arith}
 use Rattle.std.proofs.lemmas.List.{length-map, length-take-le, map_push}
 use Rattle.calculus.specs.Scans.{remove, all_but_last}
 use Rattle.cases.specs.Literals.{Literals}
 use Rattle.layers.specs.Facts.Rows.{below_past}
-use Rattle.arrayvec.specs.ArrayVec.{array_vec_len}
+use Rattle.shortlists.specs.ShortLists.{items_in}
 use Rattle.tables.specs.declared.learned.Learned.{Learned}
 use Rattle.tables.specs.declared.conditions.Condition.{Condition}
 use Rattle.tables.specs.declared.conditions.Conditions.{Conditions}
@@ -20,9 +19,9 @@ len_rows l = length-map (take l.len l.rows) row_of ∙ length-take-le l.len l.ro
 pub length-rows : (l : Learned) → length (rows_of l) ≤ 64
 length-rows l = omega (arith, len_rows l, l.few)
 
-pub len_conditions : (c : Conditions) → length (conditions_of c) ≡ array_vec_len c.held
+pub len_conditions : (c : Conditions) → length (conditions_of c) ≡ length (items_in c.held)
 unfolding conditions_of
-len_conditions c = length-map c.held.items literals_of
+len_conditions c = length-map (items_in c.held) literals_of
 
 pub length-conditions : (c : Conditions) → length (conditions_of c) ≤ 32
 length-conditions c = omega (arith, len_conditions c, c.few)
@@ -107,10 +106,3 @@ learned_remove (suc p) (r ∷ rs) = ap {B = List Literals} (λ ls. r.literals �
 
 pub learned-append : (rs : List Noted) (r : Noted) → rules_learned (rs ++ (r ∷ [])) ≡ rules_learned rs ++ (r.literals ∷ [])
 learned-append rs r = map_push (λ (x : Noted). x.literals) rs r
-
--- Copies of conditions are those conditions.
-pub copied : (xs ys : List Condition) → AllZip (λ v w. literals_of w ≡ literals_of v) xs ys → map literals_of ys ≡ map literals_of xs
-copied [] [] h = refl
-copied [] (y ∷ ys) h = absurd h
-copied (x ∷ xs) [] h = absurd h
-copied (x ∷ xs) (y ∷ ys) h = ap₂ (λ a b. a ∷ b) h.0 (copied xs ys h.1)

@@ -3,6 +3,7 @@ use Rattle.std.specs.Prelude.{ℕ, Bool, ◌&&◌, List, map, length, nat_le, na
 use Rattle.layers.specs.Rows.{past_all}
 use Rattle.layers.specs.RowViews.{items_of}
 use Rattle.calculus.specs.Checks.{most_conditions, longest_condition}
+use Rattle.shortlists.specs.ShortLists.{items_in}
 use Rattle.tables.specs.declared.conditions.Condition.{Condition}
 use Rattle.tables.specs.declared.conditions.Conditions.{Conditions}
 
@@ -10,7 +11,7 @@ abbrev pub literals_of : Condition → List ℕ
 literals_of c = items_of c.literals
 
 unfoldable pub conditions_of : Conditions → List (List ℕ)
-conditions_of c = map literals_of c.held.items
+conditions_of c = map literals_of (items_in c.held)
 
 -- There is room for one more, and the list is short enough and has only numbers that can be literals.
 abbrev pub can_hold : List (List ℕ) → List ℕ → Bool

@@ -48,6 +48,10 @@ pub renamed_none : (p : ℕ) → trail_of [] ≡ renamed p (trail_of [])
 unfolding renamed
 renamed_none p = trail_none ∙ sym (ap (renamed p) trail_none)
 
+-- one entry more
+pub length-more : (es fs : List Entry) (e : Entry) → fs ≡ es ++ e ∷ [] → length fs ≡ length es + 1
+length-more es fs e h = ap length h ∙ length-append es (e ∷ [])
+
 -- one turn of a loop that renames
 pub renamed_turn : (old now : List Entry) (p i : ℕ) (e d : Entry) → i < length now → i < length old → trail_of (take i now) ≡ renamed p (trail_of (take i old))
     → entry_of e ≡ record { literal = (get_or old i d).literal; level = (get_or old i d).level; reason = moved p (reason_of (get_or old i d).reason) }
@@ -64,7 +68,7 @@ unfolding literals_in
 length-literals [] = refl
 length-literals (e ∷ t) = length-append (literals_in t) (e.literal ∷ []) ∙ omega (arith, length-literals t)
 
-literals_more : (es : List Entry) (k : ℕ) (d : Entry) → k < length es → literals_in (trail_of (take (k + 1) es)) ≡ literals_in (trail_of (take k es)) ++ ((get_or es k d).literal ∷ [])
+pub literals_more : (es : List Entry) (k : ℕ) (d : Entry) → k < length es → literals_in (trail_of (take (k + 1) es)) ≡ literals_in (trail_of (take k es)) ++ ((get_or es k d).literal ∷ [])
 unfolding literals_in
 literals_more es k d h = ap literals_in (trail_more es k d h)
 

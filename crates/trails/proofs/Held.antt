@@ -84,7 +84,7 @@ module _ (short long : List Entry) (e : Entry) (more : long ≡ short ++ e ∷ [
   pub grown : trail_of long ≡ entry_of e ∷ trail_of short
   grown = ap trail_of more ∙ trail_push short e
 
-  on_later : (x : ℕ) → on (trail_of long) x ≡ (eqb e.literal x || on (trail_of short) x)
+  pub on_later : (x : ℕ) → on (trail_of long) x ≡ (eqb e.literal x || on (trail_of short) x)
   unfolding on
   on_later x = ap (λ (t : calculus.Trail). on t x) grown
 

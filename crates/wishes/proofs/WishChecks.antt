@@ -9,15 +9,15 @@ use Rattle.wishes.specs.Wishes.{Wish, wish_for, wish_reach, wish_room, wish_soun
 use Rattle.wishes.specs.Facts.WishLayers.{wish_reach_more}
 use Rattle.layers.proofs.Accepting.{no_fault}
 
-record AcceptedWish (ws : List Wish) (m : Meaning) (xs : List ℕ) : Type 0 where
-  fine : is_oversize (wishing ws m) ≡ false
-  short : length xs ≤ 16
-  exists : past_all xs ≤ 2 * options_of m
-  few : length ws < 8
-  options : options_of m + length ws < 56
-  rules : length (rules_of m) + length ws < 512
+pub record AcceptedWish (ws : List Wish) (m : Meaning) (xs : List ℕ) : Type 0 where
+  pub fine : is_oversize (wishing ws m) ≡ false
+  pub short : length xs ≤ 16
+  pub exists : past_all xs ≤ 2 * options_of m
+  pub few : length ws < 8
+  pub options : options_of m + length ws < 56
+  pub rules : length (rules_of m) + length ws < 512
 
-accepted_wish : (ws : List Wish) (m : Meaning) (xs : List ℕ) → Ok tt ≡ wish_check ws m xs → AcceptedWish ws m xs
+pub accepted_wish : (ws : List Wish) (m : Meaning) (xs : List ℕ) → Ok tt ≡ wish_check ws m xs → AcceptedWish ws m xs
 accepted_wish ws m xs h =
     let none = no_fault (wish_faults ws m xs) tt tt h in
     let small = or_parts (leb 56 (options_of m + length ws)) (leb 512 (length (rules_of m) + length ws)) none.1.1.1.1.0 in
@@ -45,5 +45,9 @@ fits_more ws xs a =
     (and_from _ _ (le-leb (length s.rules + length more) 512 (omega (arith, k.rules))) (le-leb (wish_reach more) (2 * n) (omega (arith, k.exists)))) in
     ap is_oversize (cond-true (wish_room more n (length s.rules)) (sound (wish_sound more s)) oversize room))
 
-pub still_sound : (ws : List Wish) (xs : List ℕ) (a : ℕ) (m : Meaning) → Ok tt ≡ wish_check ws m xs → is_oversize (wishing (ws ++ wish_for xs a ∷ []) m) ≡ false
-still_sound ws xs a m h = let k = accepted_wish ws m xs h in fits_more ws xs a m k.fine k
+pub still_sound : (ws : List Wish) (xs : List ℕ) (a : ℕ) (m : Meaning) → AcceptedWish ws m xs → is_oversize (wishing (ws ++ wish_for xs a ∷ []) m) ≡ false
+still_sound ws xs a m k = fits_more ws xs a m k.fine k
+
+-- The same of a wish that has passed the checks.
+pub checked_sound : (ws : List Wish) (xs : List ℕ) (a : ℕ) (m : Meaning) → Ok tt ≡ wish_check ws m xs → is_oversize (wishing (ws ++ wish_for xs a ∷ []) m) ≡ false
+checked_sound ws xs a m h = still_sound ws xs a m (accepted_wish ws m xs h)

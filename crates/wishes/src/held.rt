@@ -3,7 +3,7 @@ ghost use Rattle.std.specs.Prelude.{◌^◌, ◌<◌};
 
 use layers::row::Row;
 
-#[derive(Drop)]
+#[derive(Clone, Copy)]
 pub struct HeldWish {
     pub literals: Row,
     pub amount: u32,

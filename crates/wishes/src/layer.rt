@@ -43,7 +43,7 @@ impl<C: Case> Wishes<C> {
 
     // Adds a wish: a rule that may be broken at the price of the amount.
     // `below` is an effect of the call and no fact of a value, so it is a clause here and in `hold`, and no invariant.
-    #[tactic(auto, using(crate::proofs::WishChecks::still_sound))]
+    #[tactic(auto, using(crate::proofs::WishChecks::checked_sound))]
     pub fn add(&mut self, wish: &[u8], amount: u32) -> Result<(), Refusal>
         ensures answers { result ≡ wish_check (wishes_of self.old) (C.Case.meaning self.old.below) wish.now }
         ensures adds { MatchResult result (λ _. wishes_of self.new ≡ wishes_of self.old ++ wish_for wish.now amount ∷ []) (λ _. self.new ≡ self.old) }

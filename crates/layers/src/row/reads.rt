@@ -4,7 +4,7 @@ ghost use Rattle.layers.specs.Rows.{past_all};
 ghost use Rattle.layers.specs.RowViews.{items_of};
 
 use super::Row;
-use arrayvec::ArrayVec;
+use shortlists::short_list::ShortList;
 use std::alloc::AllocError;
 
 // Written out, as no derive stands over ghost fields.
@@ -16,14 +16,14 @@ impl Default for Row {
     }
 }
 
-// Written out as well, for the same reason. It never fails.
+// Written out and not derived, so that an edit can try a wrong one. It never fails.
 impl Clone for Row {
-    ghost is_clone = { λ row copy. items_of copy ≡ items_of row };
+    ghost is_clone = { λ row copy. copy ≡ row };
 
     ghost is_infallible = { λ _. Unit };
 
     fn clone(&self) -> Result<Row, AllocError> {
-        Ok(Row::of(self.items()))
+        Ok(*self)
     }
 }
 
@@ -32,7 +32,7 @@ impl Row {
         ensures { items_of result ≡ [] }
     {
         Row {
-            items: ArrayVec::new(),
+            items: ShortList::empty(0),
         }
     }
 
@@ -42,8 +42,8 @@ impl Row {
         requires small { past_all list.now ≤ 128 }
         ensures { items_of result ≡ list.now }
     {
-        let mut items = ArrayVec::new();
-        items.try_extend_from_slice(list).unwrap();
+        let mut items = ShortList::empty(0);
+        let _ = items.extend(list);
         Row { items }
     }
 

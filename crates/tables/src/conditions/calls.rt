@@ -4,10 +4,10 @@ ghost use Rattle.calculus.specs.Scans.{all_but_last};
 ghost use Rattle.tables.specs.Conditions.{conditions_of, literals_of, can_hold};
 
 use super::{Condition, Conditions, LONGEST_CONDITION};
-use arrayvec::ArrayVec;
 use layers::lists::past_all;
 use layers::row::Row as Literals;
 use literals::SPAN;
+use shortlists::short_list::ShortList;
 use std::alloc::AllocError;
 
 // Written out: a derive is no plainer, as the default is said in the condition's own word `literals_of`.
@@ -21,17 +21,14 @@ impl Default for Condition {
     }
 }
 
-// Written out, as no derive stands over a ghost field. It never fails.
+// Written out and not derived, so that an edit can try a wrong one. It never fails.
 impl Clone for Conditions {
-    ghost is_clone = { λ conditions copy. conditions_of copy ≡ conditions_of conditions };
+    ghost is_clone = { λ conditions copy. copy ≡ conditions };
 
     ghost is_infallible = { λ _. Unit };
 
-    #[tactic(auto, using(crate::proofs::Facts::copied), unfolding(crate::specs::Conditions::conditions_of))]
     fn clone(&self) -> Result<Conditions, AllocError> {
-        Ok(Conditions {
-            held: self.held.clone()?,
-        })
+        Ok(*self)
     }
 }
 
@@ -41,7 +38,7 @@ impl Conditions {
         ensures { conditions_of result ≡ [] }
     {
         Conditions {
-            held: ArrayVec::new(),
+            held: ShortList::empty(Condition::default()),
         }
     }
 

@@ -4,7 +4,7 @@ ghost use Rattle.trails.specs.Entries.{entry_of, no_entry};
 
 use super::{Entry, Reason};
 
-// An ArrayVec fills its unused places with it. Written out, so that its ghost says which entry it is.
+// A short list fills its unused places with it. Written out, so that its ghost says which entry it is.
 impl Default for Entry {
     ghost is_default = { λ e. entry_of e ≡ no_entry };
 

@@ -2,21 +2,23 @@
 ghost use Rattle.std.specs.Prelude.{◌≡◌, [], if◌then◌else◌};
 ghost use Rattle.calculus.specs.Trails.{cut as cut_trail};
 ghost use Rattle.calculus.specs.Learned.{renamed};
+ghost use Rattle.shortlists.specs.ShortLists.{items_in};
 ghost use Rattle.trails.specs.Entries.{joined, tail_of, trail_of};
 ghost use Rattle.trails.specs.Trails.{listed, has_place};
 
 use super::Trail;
 use crate::entry::{Entry, Reason};
-use arrayvec::ArrayVec;
+use cases::limits::MOST_OPTIONS;
 use cases::literals::opposite;
 use literals::{LiteralSet, SPAN};
+use shortlists::short_list::ShortList;
 
 impl Trail {
     pub fn empty() -> Trail
         ensures { listed result ≡ [] }
     {
         Trail {
-            entries: ArrayVec::new(),
+            entries: ShortList::empty(Entry::default()),
             set: LiteralSet::empty(),
             against: LiteralSet::empty(),
         }
@@ -78,7 +80,7 @@ impl Trail {
     pub fn rename(&mut self, gone: usize)
         ensures { listed self.new ≡ renamed gone (listed self.old) }
     {
-        rename_all(self.entries.as_mut_slice(), gone);
+        rename_all(&mut self.entries, gone);
     }
 
     pub fn clear(&mut self)
@@ -90,10 +92,19 @@ impl Trail {
     }
 }
 
-fn rename_all(entries: &mut [Entry], gone: usize)
-    ensures { trail_of entries.new ≡ renamed gone (trail_of entries.old) }
+fn rename_all(entries: &mut ShortList<Entry, MOST_OPTIONS>, gone: usize)
+    ensures { trail_of (items_in entries.new) ≡ renamed gone (trail_of (items_in entries.old)) }
 {
-    for e in entries {
-        e.reason = e.reason.renamed(gone);
+    // by number: a short list lends no slice to write into
+    for at in 0..entries.len() {
+        let e = entries.as_slice()[at];
+        entries.set(
+            at,
+            Entry {
+                literal: e.literal,
+                level: e.level,
+                reason: e.reason.renamed(gone),
+            },
+        );
     }
 }

@@ -9,7 +9,7 @@ use crate::entry::Reason;
 
 impl Trail {
     // For each of 64 places from a base on, whether the rule there is the reason of a literal.
-    // An array and no ArrayVec: there is an answer for each place, and the table of rows takes 64 of them.
+    // An array and no short list: there is an answer for each place, and the table of rows takes 64 of them.
     pub fn reasons(&self, base: usize) -> [bool; 64]
         ensures full { length result ≡ 64 }
         ensures tells { (j : ℕ) → j < 64 → slice_index_or result j false ≡ is_reason (listed self.now) (base + j) }

@@ -7,6 +7,7 @@ use Rattle.std.proofs.lemmas.Iterator.Adapters.{YieldsList-from_rev_slice}
 use Rattle.std.proofs.lemmas.Iterator.Search.{find_from_yields_List}
 use Rattle.cases.specs.Literals.{Literals, complement}
 use Rattle.literals.specs.Members.{member}
+use Rattle.shortlists.specs.ShortLists.{items_in}
 use Rattle.trails.specs.declared.entry.Entry.{Entry}
 use Rattle.trails.specs.Entries.{entry_of, trail_of}
 use Rattle.trails.specs.Trails.{listed}
@@ -39,7 +40,7 @@ returns c =
     let t = c.args.self.now in
     let S = member c.args.set.now in
     let found = find_from_yields_List (λ e. S (complement e.literal)) _ _ c.find.result c.find.ensures.ran
-    (YieldsList-from_rev_slice t.entries.items (ap iter_rest c.rev.ensures.source ∙ c.iter.ensures.rest ∙ c.deref.ensures.0)) (λ x b q k. search (rules, tests))
+    (YieldsList-from_rev_slice (items_in t.entries) (ap iter_rest c.rev.ensures.source ∙ c.iter.ensures.rest ∙ c.deref.ensures.0)) (λ x b q k. search (rules, tests))
     in
-    listed_newest S t.entries.items _ (answered c.find.result _ (at_value _ (λ e. c.map_or.result ≡ e.now.level) c.find.result (λ x k. search (rules, tests)) c.map_or.ensures) ∙ ap level_or found ∙ newest_found S (reverse t.entries.items))
+    listed_newest S (items_in t.entries) _ (answered c.find.result _ (at_value _ (λ e. c.map_or.result ≡ e.now.level) c.find.result (λ x k. search (rules, tests)) c.map_or.ensures) ∙ ap level_or found ∙ newest_found S (reverse (items_in t.entries)))
     ∙ newest_is S (listed t) (levelled t) (apart t)

@@ -1,5 +1,6 @@
 use Rattle.std.proofs.Common.{◌≡◌, ℕ, ◌++◌, length, drop, sym, ap, ◌∙◌, arith}
 use Rattle.std.proofs.lemmas.List.{take_all}
+use Rattle.shortlists.specs.ShortLists.{items_in}
 use Rattle.trails.specs.declared.entry.Entry.{Entry}
 use Rattle.trails.specs.Entries.{trail_of, literals_in}
 use Rattle.trails.proofs.Entries.{length-trail, literals_none, write_turn}
@@ -18,7 +19,7 @@ loop-i-preserved c =
 pub returns : goal.returns
 returns c =
     let t = c.args.self.now in
-    let es = t.entries.items in
+    let es = (items_in t.entries) in
     let is = c.deref-e-items.ensures.0 in
     let end : c.loop-i.i ≡ length es = omega (arith, ap length is) in
     record {

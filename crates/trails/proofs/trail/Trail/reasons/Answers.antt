@@ -23,7 +23,7 @@ loop-e-preserved c =
 
 pub returns : goal.returns
 returns c =
-    let is = c.as_slice-e-items.ensures.value in
+    let is = c.as_slice-e-items.ensures in
     record {
       full = c.loop-e.invariant.full;
       tells = λ j h. c.loop-e.invariant.tells j h

@@ -11,6 +11,7 @@ use Rattle.std.proofs.lemmas.Iterator.Search.{YieldsList-from_take_while}
 use Rattle.std.proofs.lemmas.Iterator.Consumers.{YieldsList-at, YieldsList-end}
 use Rattle.cases.specs.Literals.{complement}
 use Rattle.literals.specs.Members.{member}
+use Rattle.shortlists.specs.ShortLists.{items_in}
 use Rattle.trails.specs.declared.entry.Entry.{Entry}
 use Rattle.trails.specs.Entries.{entry_of, trail_of}
 use Rattle.trails.specs.Trails.{listed}
@@ -60,7 +61,7 @@ loop-e-preserved c x =
 pub returns : goal.returns
 returns c x =
     let t = c.args.self.now in
-    let es = t.entries.items in
+    let es = (items_in t.entries) in
     let k = c.level-level.result in
     let p : Entry → Bool = λ e. eqb e.literal (complement x) in
     let end = all_yielded c.loop-e.yielded _ c.loop-e.yielded_by _ _ c.in-None.is c.next.ensures.steps
