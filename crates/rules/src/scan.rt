@@ -88,8 +88,6 @@ fn forced_by_row(learned: &Learned, set: &LiteralSet, settled: &LiteralSet, j: u
 
 impl<'a, P: Case> Rules<'a, P> {
     // The place of the first rule that has no literal in the set.
-    // Kept apart, as the one below: these loops are nearly all of a search's time, and within a whole step they lack registers.
-    #[inline(never)]
     pub fn first_missing(&self, set: &LiteralSet) -> Option<usize>
         ensures { found result ≡ place_of (misses (member set.now)) (all_clauses self.now.force.now self.now.learned.now) }
     {
@@ -101,7 +99,6 @@ impl<'a, P: Case> Rules<'a, P> {
     }
 
     // The place of the first rule that has just one literal in the set, which is not settled, and that literal.
-    #[inline(never)]
     pub fn first_forcing(&self, set: &LiteralSet, settled: &LiteralSet) -> Option<(usize, u8)>
         ensures { UnitOf (member set.now) (member settled.now) (all_clauses self.now.force.now self.now.learned.now) result }
     {

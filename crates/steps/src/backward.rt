@@ -90,6 +90,8 @@ fn level_below<P: Case>(pile: &P, trail: &Trail, set: &LiteralSet, literal: u8) 
 }
 
 // Backtrack, if the set has just one literal of the trail's level, and that is not 0. Else Skip or Resolve.
+// Compiled apart: forward has nearly all of a search's time, and beside this its loops over the rules run out of registers.
+#[inline(never)]
 pub fn backward<P: Case, K: Charge>(force: &Force<'_, P>, work: &mut Work, set: LiteralSet)
     ensures leaves { (b : Option K) → working (kind_of K.Charge) force.now b work.new ≡ backward_by force.now.pile (working (kind_of K.Charge) force.now b work.old) (member set) (can_backtrack force.now.pile.options (listed work.old.trail) (member set)) }
     ensures notes { Right (length (all_rules force.now)) work.old → Right (length (all_rules force.now)) work.new }

@@ -7,7 +7,7 @@ use super::Row;
 use shortlists::short_list::ShortList;
 use std::alloc::AllocError;
 
-// Written out, as no derive stands over ghost fields.
+// Written out, as no `Default` is derived beside a ghost field.
 impl Default for Row {
     ghost is_default = { λ row. items_of row ≡ [] };
 

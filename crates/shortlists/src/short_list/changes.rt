@@ -1,5 +1,5 @@
 // How a short list is made, and what is done to it.
-ghost use Rattle.std.specs.Prelude.{◌≡◌, ◌+◌, ◌-◌, ◌∷◌, ◌++◌, [], length, nat_le, nat_lt, take, slice_set, if◌then◌else◌, MatchOption};
+ghost use Rattle.std.specs.Prelude.{◌≡◌, ◌+◌, ◌-◌, ◌∷◌, ◌++◌, [], false, length, nat_le, nat_lt, take, slice_set, if◌then◌else◌, MatchOption};
 ghost use Rattle.shortlists.specs.ShortLists.{items_in};
 
 use super::ShortList;
@@ -19,6 +19,7 @@ impl<T: Copy, const N: usize> ShortList<T, N> {
     pub fn push(&mut self, item: T) -> bool
         ensures answers { result ≡ nat_lt (length (items_in self.old)) N }
         ensures leaves { items_in self.new ≡ (if result then items_in self.old ++ item ∷ [] else items_in self.old) }
+        ensures refused { result ≡ false → self.new ≡ self.old }
     {
         if self.is_full() {
             return false;
@@ -32,6 +33,7 @@ impl<T: Copy, const N: usize> ShortList<T, N> {
     pub fn extend(&mut self, more: &[T]) -> bool
         ensures answers { result ≡ nat_le (length (items_in self.old) + length more.now) N }
         ensures leaves { items_in self.new ≡ (if result then items_in self.old ++ more.now else items_in self.old) }
+        ensures refused { result ≡ false → self.new ≡ self.old }
     {
         if more.len() > N - self.used {
             return false;
@@ -43,10 +45,11 @@ impl<T: Copy, const N: usize> ShortList<T, N> {
         true
     }
 
-    // The newest item goes, and is the answer.
+    // The newest item goes, and is the answer. Where there is none, nothing changes.
     pub fn pop(&mut self) -> Option<T>
         ensures answers { MatchOption result (items_in self.old ≡ []) (λ item. items_in self.old ≡ items_in self.new ++ item ∷ []) }
         ensures leaves { items_in self.new ≡ take (length (items_in self.old) - 1) (items_in self.old) }
+        ensures none { items_in self.old ≡ [] → self.new ≡ self.old }
     {
         if self.used == 0 {
             return None;

@@ -4,7 +4,7 @@ ghost use Rattle.std.specs.Prelude.{◌≡◌};
 use super::ShortList;
 use std::alloc::AllocError;
 
-// Written out, as none is derived over ghost fields and a parameter. It never fails.
+// Written out, as none is derived beside a ghost field where `T` is a parameter. It never fails.
 impl<T: Copy, const N: usize> Clone for ShortList<T, N> {
     ghost is_clone = { λ list copy. copy ≡ list };
 

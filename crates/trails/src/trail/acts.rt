@@ -17,8 +17,9 @@ impl Trail {
     pub fn empty() -> Trail
         ensures { listed result ≡ [] }
     {
+        let entries = ShortList::empty(Entry::default());
         Trail {
-            entries: ShortList::empty(Entry::default()),
+            entries,
             set: LiteralSet::empty(),
             against: LiteralSet::empty(),
         }

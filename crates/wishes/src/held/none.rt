@@ -6,7 +6,7 @@ ghost use Rattle.wishes.specs.Facts.Wishes.{no_wish};
 use super::HeldWish;
 use layers::row::Row;
 
-// Written out, as no derive stands over a ghost field.
+// Written out, as no `Default` is derived beside a ghost field.
 impl Default for HeldWish {
     ghost is_default = { λ wish. wish_of wish ≡ no_wish };
 
